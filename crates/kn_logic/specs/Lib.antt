@@ -1,0 +1,6 @@
+pub mod Literals
+pub mod Assignments
+pub mod Constraints
+pub mod Formulas
+pub mod Propagation
+pub mod Groups
