@@ -3,8 +3,8 @@ use Rattle.std.proofs.Common.{◌≡◌, ℕ, ◌<◌, ◌≤◌, ◌==◌, Bool
 use Rattle.std.proofs.Math.Numerals.{one-add}
 use Rattle.std.proofs.lemmas.List.{append-nil, nil_from_length}
 use Rattle.std.proofs.lemmas.List.Sums.{prefix_len_is}
-use Rattle.std.specs.List.{AllByRecursion, prefix_len}
-use Rattle.kn_text.specs.Lines.{is_blank, onto, lines_of, ended, words_behind, words_of}
+use Rattle.std.specs.List.{prefix_len}
+use Rattle.kn_text.specs.Lines.{HasNoFeed, is_blank, onto, lines_of, ended, words_behind, words_of}
 
 -- whether a byte stands within a line
 abbrev pub is_within : ℕ → Bool
@@ -50,9 +50,6 @@ pub line_cut : (text : List ℕ) → 0 < length text → LineCut text
 line_cut [] filled = absurd (omega (arith, filled))
 line_cut (b ∷ bytes) filled = line_cut-cons bytes b
 
-abbrev pub HasNoFeed : List ℕ → Type 0
-HasNoFeed bytes = AllByRecursion (λ b. (b == 10) ≡ false) bytes
-
 line_has_no_feed-at : (bytes : List ℕ) (b : ℕ) (t : Bool) → (b == 10) ≡ t → HasNoFeed (take (line_end bytes) bytes) → HasNoFeed (take (line_end (b ∷ bytes)) (b ∷ bytes))
 line_has_no_feed-at bytes b true e more = rw e tt
 line_has_no_feed-at bytes b false e more = rw e (rw one-add (e, more))
@@ -91,7 +88,7 @@ pub front_is_filled : (line : List ℕ) → 0 < length (front_of line) → 0 < w
 front_is_filled [] h = h
 front_is_filled (b ∷ bytes) h = front_is_filled-at bytes b (is_blank b) refl (front_is_filled bytes) h
 
-ended-filled : (word : List ℕ) (words : List (List ℕ)) → 0 < length word → ended word words ≡ word ∷ words
+pub ended-filled : (word : List ℕ) (words : List (List ℕ)) → 0 < length word → ended word words ≡ word ∷ words
 ended-filled [] words h = absurd (omega (arith, h))
 ended-filled (b ∷ word) words h = refl
 

@@ -1,6 +1,6 @@
-ghost use Rattle.std.specs.Prelude.{◌≡◌, ◌<◌, ◌≤◌, ◌==◌, List, [], ◌∷◌, false, not, length, IfNone, IfSome};
-ghost use Rattle.std.specs.List.{AllByRecursion, prefix_len};
-ghost use Rattle.kn_text.specs.Lines.{is_blank, is_skipped, lines_of, words_of};
+ghost use Rattle.std.specs.Prelude.{◌≡◌, ◌<◌, ◌≤◌, ◌==◌, List, [], ◌∷◌, not, length, IfNone, IfSome};
+ghost use Rattle.std.specs.List.{prefix_len};
+ghost use Rattle.kn_text.specs.Lines.{HasNoFeed, is_blank, is_skipped, lines_of, words_of};
 
 use memchr::memchr;
 
@@ -10,7 +10,7 @@ pub fn first_line(text: &[u8]) -> Option<(&[u8], &[u8])>
     ensures none { IfNone result (text.now ≡ []) }
     ensures some { IfSome result (λ x. lines_of text.now ≡ x.0.now ∷ lines_of x.1.now) }
     ensures shorter { IfSome result (λ x. length x.1.now < length text.now) }
-    ensures within { IfSome result (λ x. AllByRecursion (λ b. (b == 10) ≡ false) x.0.now) }
+    ensures within { IfSome result (λ x. HasNoFeed x.0.now) }
 {
     if text.is_empty() {
         return None;
