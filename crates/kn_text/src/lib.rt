@@ -1,0 +1,2 @@
+//! Lines, words, numbers and literals of a text.
+#![tactic(auto)]
