@@ -46,7 +46,7 @@ pub record IsClosed (trail : List Literal) (cs : List Bounded) : Type 0 where
 abbrev pub after_bound : List Literal → ℕ → List Literal → Option (List Literal)
 after_bound trail bound lits =
     if nat_lt (open_places trail lits) bound then None
-    else if open_places trail lits == bound then Some (filter (is_open trail) lits ++ trail)
+    else if open_places trail lits == bound then Some (trail ++ filter (is_open trail) lits)
     else Some trail
 
 -- A hint with a guard: as without it where the guard is true; nothing where it is false; else the
@@ -55,7 +55,7 @@ abbrev pub after_guard : List Literal → Literal → ℕ → List Literal → O
 after_guard trail guard bound lits =
     if has trail guard then after_bound trail bound lits
     else if has trail (negated guard) then Some trail
-    else if nat_lt (open_places trail lits) bound then Some (negated guard ∷ trail)
+    else if nat_lt (open_places trail lits) bound then Some (trail ++ negated guard ∷ [])
     else Some trail
 
 abbrev pub after_parts : List Literal → Option Literal → ℕ → List Literal → Option (List Literal)

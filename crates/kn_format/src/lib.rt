@@ -1,0 +1,2 @@
+//! Texts of formulas and models.
+#![tactic(auto)]

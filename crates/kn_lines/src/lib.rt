@@ -1,0 +1,14 @@
+//! The lines of a proof: their type, their reader and their writer. A reader of proofs uses `read_line`
+//! on each line of a text, a maker of proofs `write_line`; `specs/Lines.antt` says how each kind of line
+//! is spelled.
+#![tactic(auto)]
+
+mod ids;
+mod line;
+
+pub use ids::Ids;
+pub use line::{Arm, Line};
+use std::alloc::AllocError;
+
+/// Want of memory.
+pub type NoMemory = AllocError;

@@ -1,0 +1,40 @@
+-- The state of a proof: what its lines so far have given.
+use Rattle.std.specs.Prelude.{ℕ, ◌-◌, ◌==◌, Bool, false, if◌then◌else◌, List, [], map, Option, Some, None, option_and_then, slice_get}
+use Rattle.kn_logic.specs.Literals.{Literal}
+use Rattle.kn_logic.specs.Constraints.{Bounded}
+use Rattle.kn_logic.specs.Formulas.{Problem}
+use Rattle.kn_lines.specs.declared.line.Arm.{Arm}
+use Rattle.kn_rules.specs.declared.given.Given.{Given}
+use Rattle.kn_rules.specs.declared.given.Origin.TheVariants.{File}
+
+-- a defined variable: "if test then high else low"
+pub record Definition : Type 0 where
+  pub test : Literal
+  pub high : Arm
+  pub low : Arm
+
+-- An id stands for a `Given`: what gave it, and its constraint, or none where it is deleted.
+--
+-- The variables from 1 to `vars` are known. The definitions stand in the order of their variables, which
+-- come behind those of the file. What the ids stand for is listed in their order, that of id 1 first.
+-- A proof is refuted once a lemma or a learned clause without literals was given.
+pub record ProofState : Type 0 where
+  pub vars : ℕ
+  pub definitions : List Definition
+  pub given : List Given
+  pub refuted : Bool
+
+abbrev pub from_file : Bounded → Given
+from_file c = record { origin = File; live = Some c }
+
+-- the state behind the header
+abbrev pub start : Problem → ProofState
+start f = record { vars = f.vars; definitions = []; given = map from_file f.constraints; refuted = false }
+
+-- what stands under an id; none where it was not given
+abbrev pub given_at : List Given → ℕ → Option Given
+given_at given id = if id == 0 then None else slice_get given (id - 1)
+
+-- the constraint of a live id; none where the id was not given or is deleted
+abbrev pub live_at : List Given → ℕ → Option Bounded
+live_at given id = option_and_then (λ entry. entry.live) (given_at given id)

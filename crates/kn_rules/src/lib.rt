@@ -1,0 +1,6 @@
+//! The rules of proofs.
+#![tactic(auto)]
+
+mod given;
+
+pub use given::{Given, Origin};
