@@ -1,0 +1,72 @@
+-- Sources and sinks in memory as their callers see them, and what a call changes.
+use Rattle.std.specs.Prelude.{ℕ, ◌+◌, ◌-◌, ◌^◌, min, List, ◌++◌, length, drop, Contains, ◌≡◌, ◌<◌, ◌⊎◌}
+
+-- a count of 64 bits that rose by n, and stands still at the end of its type
+abbrev pub counted : ℕ → ℕ → ℕ
+counted count n = min (count + n) (2 ^ 64 - 1)
+
+-- A source: the bytes that are left, the most that one call gives, the numbers of the calls that fail,
+-- and how many calls were made, bytes given and faults counted.
+pub record SourceState : Type 0 where
+  pub left : List ℕ
+  pub step : ℕ
+  pub failing : List ℕ
+  pub calls : ℕ
+  pub given : ℕ
+  pub faults : ℕ
+
+-- the number of the call that comes next: calls are numbered from 1
+abbrev pub next_call : ℕ → ℕ
+next_call calls = counted calls 1
+
+-- the next call fails
+abbrev pub SourceFails : SourceState → Type 0
+SourceFails s = Contains s.failing (next_call s.calls)
+
+-- how many bytes a call gives that asks for this many
+abbrev pub piece_given : SourceState → ℕ → ℕ
+piece_given s asked = min s.step (min asked (length s.left))
+
+-- after a call that gave n bytes
+abbrev pub after_giving : SourceState → ℕ → SourceState
+after_giving s n = record s { left = drop n s.left; calls = next_call s.calls; given = counted s.given n }
+
+-- after a call that failed
+abbrev pub after_no_giving : SourceState → SourceState
+after_no_giving s = record s { calls = next_call s.calls; faults = counted s.faults 1 }
+
+-- A sink: the bytes written, the most that it holds and the most that one call takes, the numbers of
+-- the calls that fail, and how many calls were made and faults counted.
+pub record SinkState : Type 0 where
+  pub written : List ℕ
+  pub room : ℕ
+  pub step : ℕ
+  pub failing : List ℕ
+  pub calls : ℕ
+  pub faults : ℕ
+
+-- the next call fails if it brings this piece: its number says so, or there is no room for a byte of it
+abbrev pub SinkFails : SinkState → List ℕ → Type 0
+SinkFails s piece = Contains s.failing (next_call s.calls) ⊎ ((length s.written ≡ s.room) × (0 < length piece))
+
+-- how many bytes a call takes that brings this many
+abbrev pub piece_taken : SinkState → ℕ → ℕ
+piece_taken s brought = min s.step (min brought (s.room - length s.written))
+
+-- after a call that took these bytes
+abbrev pub after_taking : SinkState → List ℕ → SinkState
+after_taking s bytes = record s { written = s.written ++ bytes; calls = next_call s.calls }
+
+-- after a call that failed
+abbrev pub after_no_taking : SinkState → SinkState
+after_no_taking s = record s { calls = next_call s.calls; faults = counted s.faults 1 }
+
+-- a sink that grows: the bytes written, and how often memory was short
+pub record GrownState : Type 0 where
+  pub written : List ℕ
+  pub faults : ℕ
+
+-- what a source over a file counts
+pub record FileCounts : Type 0 where
+  pub given : ℕ
+  pub faults : ℕ
