@@ -4,14 +4,18 @@
 mod grow_sink;
 mod mem_sink;
 mod mem_source;
+mod read;
 mod sink;
 mod source;
+mod write;
 
 pub use grow_sink::GrowSink;
 pub use mem_sink::MemSink;
 pub use mem_source::MemSource;
+pub use read::{ReadAll, read_all};
 pub use sink::Sink;
 pub use source::{Failed, Source};
+pub use write::{WriteFault, write_all};
 
 use std::alloc::AllocError;
 

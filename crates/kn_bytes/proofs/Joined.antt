@@ -1,0 +1,24 @@
+-- What two calls did, one after the other.
+use Rattle.std.proofs.Common.{◌≡◌, ℕ, ◌+◌, ◌≤◌, List, [], ◌++◌, length, take, drop, Option, None, Some, refl, ap, sym, ◌∙◌, append_assoc, length-append, arith}
+use Rattle.std.proofs.lemmas.List.{append-nil, length-take}
+use Rattle.std.proofs.Math.Seq.{take-add}
+use Rattle.kn_bytes.specs.Outside.{RoseBy, Gave, Got}
+
+pub RoseBy-add : (a b c n m : ℕ) → RoseBy a b n → RoseBy b c m → RoseBy a c (n + m)
+RoseBy-add a b c n m first next = (omega arith, λ below. omega arith)
+
+pub Gave-append : (a b c : Option (List ℕ)) (xs ys : List ℕ) → Gave a b xs → Gave b c ys → Gave a c (xs ++ ys)
+Gave-append None b c xs ys first next = rw first at next
+Gave-append (Some old) None c xs ys first next = absurd first
+Gave-append (Some old) (Some mid) None xs ys first next = absurd next
+Gave-append (Some old) (Some mid) (Some new) xs ys first next = first ∙ ap (λ (rest : List ℕ). xs ++ rest) next ∙ sym (append_assoc xs ys new)
+
+pub Got-append : (a b c : Option (List ℕ)) (xs ys : List ℕ) → Got a b xs → Got b c ys → Got a c (xs ++ ys)
+Got-append None b c xs ys first next = rw first at next
+Got-append (Some old) None c xs ys first next = absurd first
+Got-append (Some old) (Some mid) None xs ys first next = absurd next
+Got-append (Some old) (Some mid) (Some new) xs ys first next = next ∙ ap (λ (front : List ℕ). front ++ ys) first ∙ append_assoc old xs ys
+
+-- a sink that got the first n bytes of a text, and then m bytes of the rest
+pub Got-take : (a b c : Option (List ℕ)) (n m : ℕ) (bytes rest : List ℕ) → rest ≡ drop n bytes → Got a b (take n bytes) → Got b c (take m rest) → Got a c (take (n + m) bytes)
+Got-take a b c n m bytes rest is first next = rw (take-add n m bytes, ← is) (Got-append a b c (take n bytes) (take m rest) first next)
