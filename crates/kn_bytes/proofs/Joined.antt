@@ -1,6 +1,6 @@
 -- What two calls did, one after the other.
-use Rattle.std.proofs.Common.{◌≡◌, ℕ, ◌+◌, ◌≤◌, List, [], ◌++◌, length, take, drop, Option, None, Some, refl, ap, sym, ◌∙◌, append_assoc, length-append, arith}
-use Rattle.std.proofs.lemmas.List.{append-nil, length-take}
+use Rattle.std.proofs.Common.{◌≡◌, ℕ, ◌+◌, ◌≤◌, List, ◌++◌, length, take, drop, Option, None, Some, ap, sym, ◌∙◌, append_assoc, length-append, arith}
+use Rattle.std.proofs.lemmas.List.{length-take-le}
 use Rattle.std.proofs.Math.Seq.{take-add}
 use Rattle.kn_bytes.specs.Outside.{RoseBy, Gave, Got}
 
@@ -22,3 +22,8 @@ Got-append (Some old) (Some mid) (Some new) xs ys first next = next ∙ ap (λ (
 -- a sink that got the first n bytes of a text, and then m bytes of the rest
 pub Got-take : (a b c : Option (List ℕ)) (n m : ℕ) (bytes rest : List ℕ) → rest ≡ drop n bytes → Got a b (take n bytes) → Got b c (take m rest) → Got a c (take (n + m) bytes)
 Got-take a b c n m bytes rest is first next = rw (take-add n m bytes, ← is) (Got-append a b c (take n bytes) (take m rest) first next)
+
+-- a source that gave some bytes, and then the first n of a piece
+pub RoseBy-take : (a b c n : ℕ) (bytes piece : List ℕ) → n ≤ length piece → RoseBy a b (length bytes) → RoseBy b c n → RoseBy a c (length (bytes ++ take n piece))
+RoseBy-take a b c n bytes piece within first next =
+    simp (length-append, length-take-le n piece within) (RoseBy-add a b c (length bytes) n first next)
