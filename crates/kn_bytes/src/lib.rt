@@ -1,6 +1,8 @@
 //! Bytes that come in and go out.
 #![tactic(auto)]
 
+mod file_source;
+mod files;
 mod grow_sink;
 mod mem_sink;
 mod mem_source;
@@ -9,6 +11,7 @@ mod sink;
 mod source;
 mod write;
 
+pub use file_source::FileSource;
 pub use grow_sink::GrowSink;
 pub use mem_sink::MemSink;
 pub use mem_source::MemSource;
