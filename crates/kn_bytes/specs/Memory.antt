@@ -65,8 +65,3 @@ after_no_taking s = record s { calls = next_call s.calls; faults = counted s.fau
 pub record GrownState : Type 0 where
   pub written : List ℕ
   pub faults : ℕ
-
--- what a source over a file counts
-pub record FileCounts : Type 0 where
-  pub given : ℕ
-  pub faults : ℕ

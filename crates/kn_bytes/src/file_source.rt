@@ -19,9 +19,9 @@ pub struct FileSource<'a, R: Files> {
 }
 
 impl<'a, R: Files> Model for FileSource<'a, R> {
-    ghost use Rattle.kn_bytes.specs.Memory.{FileCounts};
+    ghost use Rattle.kn_bytes.specs.System.{SourceCounts};
 
-    ghost Value = { FileCounts };
+    ghost Value = { SourceCounts };
 
     ghost view = { λ s. record { given = s.given; faults = s.faults } };
 }

@@ -1,9 +1,9 @@
 // Calls of the system, each made again where it was interrupted.
-ghost use Rattle.std.specs.Prelude.{◌≤◌, length, IfSome};
+ghost use Rattle.std.specs.Prelude.{◌≤◌, length, ◌<◌, IfSome};
 
 use std::fs::OpenOptions;
 use std::io;
-use std::io::{ErrorKind, Read};
+use std::io::{ErrorKind, Read, Write};
 use std::rt::Files;
 use std::str;
 
@@ -31,6 +31,38 @@ pub fn read<F: Read>(file: &mut F, into: &mut [u8]) -> Option<usize>
 {
     for _ in 0..TRIES {
         match file.read(into) {
+            Ok(size) => return Some(size),
+            Err(error) if is_interrupted(&error) => {}
+            Err(_) => return None,
+        }
+    }
+    None
+}
+
+/// At least one byte, unless there are none.
+pub fn write<F: Write>(file: &mut F, bytes: &[u8]) -> Option<usize>
+    ensures bound { IfSome result (λ n. n ≤ length bytes.now) }
+    ensures some { IfSome result (λ n. 0 < length bytes.now → 1 ≤ n) }
+{
+    for _ in 0..TRIES {
+        match file.write(bytes) {
+            Ok(0) if !bytes.is_empty() => return None,
+            Ok(size) => return Some(size),
+            Err(error) if is_interrupted(&error) => {}
+            Err(_) => return None,
+        }
+    }
+    None
+}
+
+/// At least one byte, unless there are none, to standard output.
+pub fn print<R: Print>(rt: &R, bytes: &[u8]) -> Option<usize>
+    ensures bound { IfSome result (λ n. n ≤ length bytes.now) }
+    ensures some { IfSome result (λ n. 0 < length bytes.now → 1 ≤ n) }
+{
+    for _ in 0..TRIES {
+        match rt.write_some(bytes) {
+            Ok(0) if !bytes.is_empty() => return None,
             Ok(size) => return Some(size),
             Err(error) if is_interrupted(&error) => {}
             Err(_) => return None,

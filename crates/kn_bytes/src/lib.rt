@@ -1,6 +1,7 @@
 //! Bytes that come in and go out.
 #![tactic(auto)]
 
+mod file_sink;
 mod file_source;
 mod files;
 mod grow_sink;
@@ -9,8 +10,10 @@ mod mem_source;
 mod read;
 mod sink;
 mod source;
+mod std_sink;
 mod write;
 
+pub use file_sink::FileSink;
 pub use file_source::FileSource;
 pub use grow_sink::GrowSink;
 pub use mem_sink::MemSink;
@@ -18,6 +21,7 @@ pub use mem_source::MemSource;
 pub use read::{ReadAll, read_all};
 pub use sink::Sink;
 pub use source::{Failed, Source};
+pub use std_sink::StdSink;
 pub use write::{WriteFault, write_all};
 
 use std::alloc::AllocError;
