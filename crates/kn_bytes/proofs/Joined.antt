@@ -1,8 +1,8 @@
 -- What two calls did, one after the other.
-use Rattle.std.proofs.Common.{◌≡◌, ℕ, ◌+◌, ◌≤◌, List, ◌++◌, length, take, drop, Option, None, Some, ap, sym, ◌∙◌, append_assoc, length-append, arith}
-use Rattle.std.proofs.lemmas.List.{length-take-le}
+use Rattle.std.proofs.Common.{◌≡◌, ℕ, ◌+◌, ◌≤◌, List, [], ◌++◌, length, take, drop, Option, None, Some, refl, ap, sym, ◌∙◌, append_assoc, length-append, arith}
+use Rattle.std.proofs.lemmas.List.{append-nil, length-take-le}
 use Rattle.std.proofs.Math.Seq.{take-add}
-use Rattle.kn_bytes.specs.Outside.{RoseBy, Gave, Got}
+use Rattle.kn_bytes.specs.Outside.{RoseBy, Gave, Got, GotPrefix, HasEnded}
 
 pub RoseBy-add : (a b c n m : ℕ) → RoseBy a b n → RoseBy b c m → RoseBy a c (n + m)
 RoseBy-add a b c n m first next = (omega arith, λ below. omega arith)
@@ -27,3 +27,26 @@ Got-take a b c n m bytes rest is first next = rw (take-add n m bytes, ← is) (G
 pub RoseBy-take : (a b c n : ℕ) (bytes piece : List ℕ) → n ≤ length piece → RoseBy a b (length bytes) → RoseBy b c n → RoseBy a c (length (bytes ++ take n piece))
 RoseBy-take a b c n bytes piece within first next =
     simp (length-append, length-take-le n piece within) (RoseBy-add a b c (length bytes) n first next)
+
+-- a source that told all it had left, and was read to the end, gave just that
+pub Gave-all : (old bytes : List ℕ) (new : Option (List ℕ)) → Gave (Some old) new bytes → HasEnded new → bytes ≡ old
+Gave-all old bytes None gave ended = absurd gave
+Gave-all old bytes (Some rest) gave ended = sym (gave ∙ ap (λ (more : List ℕ). bytes ++ more) ended ∙ append-nil bytes)
+
+-- a sink that got nothing is as before
+pub Got-nil : (a : Option (List ℕ)) → Got a a []
+Got-nil None = refl
+Got-nil (Some old) = sym (append-nil old)
+
+-- a sink that got all of a text got some of the first of it, whatever stands behind
+pub GotPrefix-from_Got : (a b : Option (List ℕ)) (xs more : List ℕ) → Got a b xs → GotPrefix a b (xs ++ more)
+GotPrefix-from_Got a b xs more got = (xs, more, refl, got)
+
+-- a prefix of a text is a prefix of a longer one
+pub GotPrefix-longer : (a b : Option (List ℕ)) (xs more : List ℕ) → GotPrefix a b xs → GotPrefix a b (xs ++ more)
+GotPrefix-longer a b xs more (front, rest, is, got) = (front, rest ++ more, rw (is, append_assoc) refl, got)
+
+-- all of one text, and then a prefix of the next
+pub GotPrefix-append : (a b c : Option (List ℕ)) (xs ys : List ℕ) → Got a b xs → GotPrefix b c ys → GotPrefix a c (xs ++ ys)
+GotPrefix-append a b c xs ys first (front, rest, is, next) =
+    (xs ++ front, rest, rw is (sym (append_assoc xs front rest)), Got-append a b c xs front first next)

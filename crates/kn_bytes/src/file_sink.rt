@@ -2,8 +2,7 @@
 ghost use Rattle.std.specs.Prelude.{◌≡◌, ℕ, ◌<◌, ◌≤◌, length, take, None, IfOk, OnErr};
 ghost use Rattle.kn_bytes.specs.Outside.{HasCause, Got};
 
-use crate::files;
-use crate::{Failed, Sink};
+use crate::{Failed, Sink, files};
 use std::fs::OpenOptions;
 use std::marker::Model;
 use std::rt::Files;

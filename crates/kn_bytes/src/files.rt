@@ -2,10 +2,9 @@
 ghost use Rattle.std.specs.Prelude.{◌≤◌, length, ◌<◌, IfSome};
 
 use std::fs::OpenOptions;
-use std::io;
 use std::io::{ErrorKind, Read, Write};
 use std::rt::Files;
-use std::str;
+use std::{io, str};
 
 /// The first try, and 16 more.
 pub const TRIES: u32 = 17;

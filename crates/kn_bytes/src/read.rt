@@ -46,7 +46,12 @@ fn new_piece(alloc: Global) -> Result<Vec<u8>, AllocError>
 }
 
 // Reads to the end by pieces of the length of `piece`.
-fn read_by<S: Source>(alloc: Global, source: &mut S, limit: u64, piece: &mut [u8]) -> Result<Vec<u8>, ReadAll>
+fn read_by<S: Source>(
+    alloc: Global,
+    source: &mut S,
+    limit: u64,
+    piece: &mut [u8],
+) -> Result<Vec<u8>, ReadAll>
     requires { 0 < length piece.old }
     ensures took { Took S.left S.given source.old source.new limit result }
     ensures later { S.faults source.old ≤ S.faults source.new }
