@@ -1,5 +1,6 @@
 // Calls of the system, each made again where it was interrupted.
-ghost use Rattle.std.specs.Prelude.{◌≤◌, length, ◌<◌, IfSome};
+ghost use Rattle.std.specs.Prelude.{◌≡◌, ◌↔◌, ◌<◌, ◌≤◌, length, IsTrue, IfSome};
+ghost use Rattle.std.specs.IoError.{error_kind};
 
 use std::fs::OpenOptions;
 use std::io::{ErrorKind, Read, Write};
@@ -9,7 +10,9 @@ use std::{io, str};
 /// The first try, and 16 more.
 pub const TRIES: u32 = 17;
 
-pub fn is_interrupted(error: &io::Error) -> bool {
+pub fn is_interrupted(error: &io::Error) -> bool
+    ensures { IsTrue result ↔ (error_kind error.now ≡ ErrorKind.Interrupted) }
+{
     error.kind() == ErrorKind::Interrupted
 }
 

@@ -1,7 +1,7 @@
 // A sink in memory with no bound but memory itself.
 ghost use Rattle.std.specs.Prelude.{◌≡◌, ◌<◌, ◌≤◌, [], ◌++◌, length, take, Some, IfOk, OnErr};
 ghost use Rattle.kn_bytes.specs.Outside.{HasCause, Got};
-ghost use Rattle.kn_bytes.specs.Memory.{counted};
+ghost use Rattle.kn_bytes.specs.Memory.{count_after};
 
 use crate::{Failed, Sink};
 use std::alloc::Global;
@@ -50,7 +50,7 @@ impl Sink for GrowSink {
     fn give(&mut self, bytes: &[u8]) -> Result<usize, Failed>
         ensures whole { IfOk result (λ n. n ≡ length bytes.now) }
         ensures after { IfOk result (λ _. self.new ≡ record self.old { written = self.old.written ++ bytes.now }) }
-        ensures err_after { OnErr result (self.new ≡ record self.old { faults = counted self.old.faults 1 }) }
+        ensures err_after { OnErr result (self.new ≡ record self.old { faults = count_after self.old.faults 1 }) }
 
         ensures bound { IfOk result (λ n. n ≤ length bytes.now) }
         ensures some { IfOk result (λ n. 0 < length bytes.now → 1 ≤ n) }

@@ -1,7 +1,7 @@
 // A sink in memory with a bound, which takes short pieces and fails where its maker wants it.
 ghost use Rattle.std.specs.Prelude.{◌≡◌, ◌↔◌, ◌<◌, ◌≤◌, [], ◌++◌, length, take, Some, IfOk, OnErr, IsErr};
 ghost use Rattle.kn_bytes.specs.Outside.{HasCause, Got};
-ghost use Rattle.kn_bytes.specs.Memory.{SinkFails, piece_taken, after_taking, after_no_taking};
+ghost use Rattle.kn_bytes.specs.Memory.{SinkFails, taken_len, sink_after_piece, sink_after_fault};
 
 use crate::{Failed, NoMemory, Sink};
 use std::alloc::Global;
@@ -64,9 +64,9 @@ impl Sink for MemSink {
     /// that isn't empty fails where no room is left.
     fn give(&mut self, bytes: &[u8]) -> Result<usize, Failed>
         ensures fails { IsErr result ↔ SinkFails self.old bytes.now }
-        ensures size { IfOk result (λ n. n ≡ piece_taken self.old (length bytes.now)) }
-        ensures after { IfOk result (λ n. self.new ≡ after_taking self.old (take n bytes.now)) }
-        ensures err_after { OnErr result (self.new ≡ after_no_taking self.old) }
+        ensures size { IfOk result (λ n. n ≡ taken_len self.old (length bytes.now)) }
+        ensures after { IfOk result (λ n. self.new ≡ sink_after_piece self.old (take n bytes.now)) }
+        ensures err_after { OnErr result (self.new ≡ sink_after_fault self.old) }
 
         ensures bound { IfOk result (λ n. n ≤ length bytes.now) }
         ensures some { IfOk result (λ n. 0 < length bytes.now → 1 ≤ n) }

@@ -1,7 +1,7 @@
 // A source in memory, which gives short pieces and fails where its maker wants it.
 ghost use Rattle.std.specs.Prelude.{◌≡◌, ◌↔◌, ℕ, ◌<◌, ◌≤◌, [], ◌++◌, length, take, drop, Some, IfOk, OnErr, IsErr};
 ghost use Rattle.kn_bytes.specs.Outside.{RoseBy, HasCause, Gave, HasEnded};
-ghost use Rattle.kn_bytes.specs.Memory.{SourceFails, piece_given, after_giving, after_no_giving};
+ghost use Rattle.kn_bytes.specs.Memory.{SourceFails, given_len, source_after_piece, source_after_fault};
 
 use crate::{Failed, Source};
 use std::marker::Model;
@@ -59,10 +59,10 @@ impl Source for MemSource {
     /// Gives as many bytes as the least of the step, the length of `into` and what is left.
     fn take(&mut self, into: &mut [u8]) -> Result<usize, Failed>
         ensures fails { IsErr result ↔ SourceFails self.old }
-        ensures size { IfOk result (λ n. n ≡ piece_given self.old (length into.old)) }
+        ensures size { IfOk result (λ n. n ≡ given_len self.old (length into.old)) }
         ensures piece { IfOk result (λ n. into.new ≡ take n self.old.left ++ drop n into.old) }
-        ensures after { IfOk result (λ n. self.new ≡ after_giving self.old n) }
-        ensures err { OnErr result (self.new ≡ after_no_giving self.old) }
+        ensures after { IfOk result (λ n. self.new ≡ source_after_piece self.old n) }
+        ensures err { OnErr result (self.new ≡ source_after_fault self.old) }
         ensures err_into { OnErr result (into.new ≡ into.old) }
 
         ensures bound { IfOk result (λ n. n ≤ length into.old) }

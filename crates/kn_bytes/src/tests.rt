@@ -2,6 +2,10 @@ ghost use Rattle.std.specs.Prelude.{◌≤◌};
 
 use super::*;
 use std::alloc::Global;
+use std::cell::Cell;
+use std::fmt::Display;
+use std::io;
+use std::io::{ErrorKind, Read};
 use std::test::Fail;
 
 fn source(alloc: Global, bytes: &[u8], step: usize, failing: &[u64]) -> Result<MemSource, NoMemory>
@@ -141,5 +145,58 @@ fn more_than_a_piece_is_read(rt: HostRuntime) -> Result<(), Fail> {
 fn standard_output_takes_a_text(rt: HostRuntime) -> Result<(), Fail> {
     let mut sink = StdSink::new(&rt);
     write_all(&mut sink, b"standard output\n")?;
+    Ok(())
+}
+
+// Interrupts as many calls as it says, and then does each.
+#[derive(Drop)]
+struct Interrupting {
+    more: Cell<u32>,
+}
+
+impl Interrupting {
+    fn new(more: u32) -> Self {
+        Interrupting {
+            more: Cell::new(more),
+        }
+    }
+}
+
+impl Print for Interrupting {
+    fn print<D: Display + Drop>(&self, _value: D) -> io::Result<()> {
+        Ok(())
+    }
+
+    fn println<D: Display + Drop>(&self, _value: D) -> io::Result<()> {
+        Ok(())
+    }
+
+    fn write_all(&self, _bytes: &[u8]) -> io::Result<()> {
+        match self.more.get().checked_sub(1) {
+            Some(more) => {
+                self.more.set(more);
+                Err(io::Error::from(ErrorKind::Interrupted))
+            }
+            None => Ok(()),
+        }
+    }
+}
+
+impl Read for Interrupting {
+    fn read(&mut self, _into: &mut [u8]) -> io::Result<usize> {
+        self.write_all(&[])?;
+        Ok(0)
+    }
+}
+
+#[test]
+fn an_interrupted_call_is_made_again_16_times(rt: HostRuntime) -> Result<(), Fail> {
+    for (times, given, taken) in [(16, Ok(3), Some(0)), (17, Err(Failed), None)] {
+        assert_eq!(rt; StdSink::new(&Interrupting::new(times)).give(b"abc"), given);
+        assert_eq!(rt;
+            files::read(&mut Interrupting::new(times), &mut [0; 4]),
+            taken
+        );
+    }
     Ok(())
 }
