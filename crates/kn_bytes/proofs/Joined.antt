@@ -33,6 +33,11 @@ pub Gave-all : (old bytes : List ℕ) (new : Option (List ℕ)) → Gave (Some o
 Gave-all old bytes None gave ended = absurd gave
 Gave-all old bytes (Some rest) gave ended = sym (gave ∙ ap (λ (more : List ℕ). bytes ++ more) ended ∙ append-nil bytes)
 
+-- a source that told that nothing was left gave nothing
+pub Gave-ended : (new : Option (List ℕ)) (n : ℕ) (piece : List ℕ) → n ≤ length piece → Gave (Some []) new (take n piece) → n ≡ 0
+Gave-ended None n piece within gave = absurd gave
+Gave-ended (Some rest) n piece within gave = omega (arith, ap length gave, length-append (take n piece) rest, length-take-le n piece within)
+
 -- a sink that got nothing is as before
 pub Got-nil : (a : Option (List ℕ)) → Got a a []
 Got-nil None = refl
