@@ -1,8 +1,9 @@
--- What two calls did, one after the other.
-use Rattle.std.proofs.Common.{◌≡◌, ℕ, ◌+◌, ◌≤◌, List, [], ◌++◌, length, take, drop, Option, None, Some, refl, ap, sym, ◌∙◌, append_assoc, length-append, arith}
+-- For callers: what two calls did, one after the other, and what a source gave that tells its bytes.
+use Rattle.std.proofs.Common.{◌≡◌, ℕ, ◌+◌, ◌≤◌, List, [], ◌++◌, length, take, drop, Option, None, Some, Ok, Vec, Global, refl, ap, sym, ◌∙◌, append_assoc, length-append, arith}
 use Rattle.std.proofs.lemmas.List.{append-nil, length-take-le}
 use Rattle.std.proofs.Math.Seq.{take-add}
 use Rattle.kn_bytes.specs.Outside.{RoseBy, Gave, Got, GotPrefix, HasEnded}
+use Rattle.kn_bytes.specs.ReadAll.{Took}
 
 pub RoseBy-add : (a b c n m : ℕ) → RoseBy a b n → RoseBy b c m → RoseBy a c (n + m)
 RoseBy-add a b c n m first next = (omega arith, λ below. omega arith)
@@ -32,6 +33,12 @@ RoseBy-take a b c n bytes piece within first next =
 pub Gave-all : (old bytes : List ℕ) (new : Option (List ℕ)) → Gave (Some old) new bytes → HasEnded new → bytes ≡ old
 Gave-all old bytes None gave ended = absurd gave
 Gave-all old bytes (Some rest) gave ended = sym (gave ∙ ap (λ (more : List ℕ). bytes ++ more) ended ∙ append-nil bytes)
+
+-- what `read_all` answers where the source tells what it has left: all of it
+pub Took-all : {S : Type 0} {left : S → Option (List ℕ)} {given : S → ℕ} {old new : S} {limit : ℕ} {all : Vec ℕ Global} → Took left given old new limit (Ok all) → (bytes : List ℕ) → left old ≡ Some bytes → all.items ≡ bytes
+Took-all {S} {left} {given} {old} {new} took bytes tells =
+    let gave : Gave (Some bytes) (left new) took.bytes = rw tells at took.gave in
+    took.answer.0 ∙ Gave-all bytes took.bytes (left new) gave took.answer.2
 
 -- a source that told that nothing was left gave nothing
 pub Gave-ended : (new : Option (List ℕ)) (n : ℕ) (piece : List ℕ) → n ≤ length piece → Gave (Some []) new (take n piece) → n ≡ 0
