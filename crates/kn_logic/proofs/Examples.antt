@@ -1,9 +1,9 @@
 -- What the definitions give on small inputs, as a reader works it out by hand.
-use Rattle.std.proofs.Common.{◌≡◌, ℕ, Bool, true, false, List, [], ◌∷◌, Option, Some, None, refl}
-use Rattle.kn_logic.specs.Literals.{Literal, negated, has, is_same, names, places}
+use Rattle.std.proofs.Common.{◌≡◌, ℕ, Bool, true, false, List, [], ◌∷◌, Some, None, refl}
+use Rattle.kn_logic.specs.Literals.{Literal, negated, is_same}
 use Rattle.kn_logic.specs.Assignments.{value_of, true_places}
 use Rattle.kn_logic.specs.Constraints.{Bounded, clause, klause, guarded_klause, is_clause}
-use Rattle.kn_logic.specs.Propagation.{is_open, open_places, has_unset, after_hint, hint_run}
+use Rattle.kn_logic.specs.Propagation.{open_places, after_hint, hint_run}
 
 -- the literal of a variable, and its negation
 abbrev pos : ℕ → Literal
