@@ -246,3 +246,7 @@ spelled_is_not_skipped (word ∷ words) (Header vars constraints) h = ap (λ w. 
 spelled_is_not_skipped (word ∷ words) (Lemma c hints) h = ap (λ w. is_skipped (w ∷ words)) h.0
 spelled_is_not_skipped (word ∷ words) (Learned c hints) h = ap (λ w. is_skipped (w ∷ words)) h.0
 spelled_is_not_skipped (word ∷ words) (Delete ids) h = ap (λ w. is_skipped (w ∷ words)) h.0
+
+-- where no line is read, none is spelled
+pub unread_spells_none : (words : List (List ℕ)) → line_of words ≡ None → (line : Line) → SpellsWords words line → ⊥
+unread_spells_none words e line h = let read : line_of words ≡ Some line = spelled_is_read words line h in absurd cc

@@ -3,11 +3,15 @@
 //! is spelled.
 #![tactic(auto)]
 
+mod error;
 mod ids;
 mod line;
+mod reading;
 
+pub use error::LineError;
 pub use ids::Ids;
 pub use line::{Arm, Line};
+pub use reading::read_line;
 use std::alloc::AllocError;
 
 /// Want of memory.
