@@ -7,11 +7,13 @@ mod error;
 mod ids;
 mod line;
 mod reading;
+mod writing;
 
 pub use error::LineError;
 pub use ids::Ids;
 pub use line::{Arm, Line};
 pub use reading::read_line;
+pub use writing::{push_line, write_line};
 use std::alloc::AllocError;
 
 /// Want of memory.
