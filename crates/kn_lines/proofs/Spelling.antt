@@ -2,14 +2,14 @@
 use Rattle.std.proofs.Common.{◌≡◌, ◌≤◌, ℕ, ◌==◌, Bool, true, false, if◌then◌else◌, List, [], ◌∷◌, ◌++◌, Option, Some, None, codes, refl, sym, ap, subst, ◌∙◌, append_assoc, arith}
 use Rattle.std.specs.Option.{option_map, option_and_then, option_map_or}
 use Rattle.std.specs.Str.{bytes_eq}
-use Rattle.std.specs.Char.{is_ascii_digit}
 use Rattle.std.proofs.lemmas.List.{append-nil}
-use Rattle.std.proofs.lemmas.Bool.{eqb-true, eqb-false, ne_eqb}
+use Rattle.std.proofs.lemmas.Bool.{eqb-false, ne_eqb}
 use Rattle.std.proofs.lemmas.Slice.Eq.{bytes_eq-Decides}
 use Rattle.kn_logic.specs.Literals.{Literal}
 use Rattle.kn_logic.specs.Constraints.{Bounded, clause}
 use Rattle.kn_text.specs.Lines.{is_skipped}
-use Rattle.kn_text.specs.Numbers.{number_of, literal_from, literal_of, is_end, is_zero}
+use Rattle.kn_text.specs.Numbers.{number_of, literal_of, is_end, is_zero}
+use Rattle.kn_text.proofs.Spelled.{literal_is_no_end}
 use Rattle.kn_text.specs.Lists.{LiteralsThen}
 use Rattle.kn_lines.specs.declared.line.Line.{Line}
 use Rattle.kn_lines.specs.declared.line.Line.TheVariants.{Header, Lemma, Learned, Delete}
@@ -65,19 +65,14 @@ spelled_are_ids (word ∷ words) (id ∷ ids) h = (h.1, spelled_are_ids words id
 
 -- literals
 
-end_is_none-number : (o : Option ℕ) (positive : Bool) → is_zero o ≡ true → option_and_then (literal_from positive) o ≡ None
-end_is_none-number None positive h = refl
-end_is_none-number (Some n) positive h = rw h refl
-
-end_is_none-at : (b : ℕ) (word : List ℕ) (t : Bool) → (b == 45) ≡ t → is_end (b ∷ word) ≡ true → literal_of (b ∷ word) ≡ None
-end_is_none-at b word true e h = let minus : is_end (45 ∷ word) ≡ true = subst (λ v. is_end (v ∷ word) ≡ true) (eqb-true b 45 e) h in absurd cc
-end_is_none-at b word false e h = rw e (end_is_none-number (number_of (b ∷ word)) true h)
+end_is_none-at : (word : List ℕ) (o : Option Literal) → literal_of word ≡ o → is_end word ≡ true → literal_of word ≡ None
+end_is_none-at word None e h = e
+end_is_none-at word (Some l) e h = let last : is_end word ≡ false = literal_is_no_end word l e in absurd cc
 
 end_is_none : (word : List ℕ) → is_end word ≡ true → literal_of word ≡ None
-end_is_none [] h = refl
-end_is_none (b ∷ word) h = end_is_none-at b word (b == 45) refl h
+end_is_none word h = end_is_none-at word (literal_of word) refl h
 
-abbrev ThenIds : List (List ℕ) → List Literal → List ℕ → Type 0
+abbrev pub ThenIds : List (List ℕ) → List Literal → List ℕ → Type 0
 ThenIds words lits hints = LiteralsThen (λ behind. SpellIds behind hints) words lits
 
 abbrev SpelledLiterals : List (List ℕ) → List Literal → List Literal → List ℕ → Type 0

@@ -5,12 +5,14 @@
 
 mod error;
 mod ids;
+mod laws;
 mod line;
 mod reading;
 mod writing;
 
 pub use error::LineError;
 pub use ids::Ids;
+pub use laws::{one_spelling, written_line_is_read};
 pub use line::{Arm, Line};
 pub use reading::read_line;
 pub use writing::{push_line, write_line};
