@@ -24,10 +24,10 @@ derived_is first lits hints =
     let front : List (List ℕ) = ended_by_zero (map literal_word lits) in
     let behind : List (List ℕ) = ended_by_zero (map decimal hints) in
     sym (joined (front ++ behind) first
-        ∙ ap (λ t. first ++ t) (flat_map-append spaced front behind)
-        ∙ ap (λ t. first ++ (t ++ flat_map spaced behind)) (ended_text literal_word lits)
-        ∙ ap (λ t. first ++ (literals_text lits ++ t)) (ended_text decimal hints)
-        ∙ sym (append_assoc first (literals_text lits) (ids_text hints)))
+    ∙ ap (λ t. first ++ t) (flat_map-append spaced front behind)
+    ∙ ap (λ t. first ++ (t ++ flat_map spaced behind)) (ended_text literal_word lits)
+    ∙ ap (λ t. first ++ (literals_text lits ++ t)) (ended_text decimal hints)
+    ∙ sym (append_assoc first (literals_text lits) (ids_text hints)))
 
 delete_is : (ids : List ℕ) → delete_text ids ≡ join_with_byte 32 (codes "x" ∷ ended_by_zero (map decimal ids))
 delete_is ids = sym (joined (ended_by_zero (map decimal ids)) (codes "x") ∙ ap (λ t. codes "x" ++ t) (ended_text decimal ids))

@@ -15,8 +15,11 @@ pub use ids::Ids;
 pub use laws::{one_spelling, written_line_is_read};
 pub use line::{Arm, Line};
 pub use reading::read_line;
-pub use writing::{push_line, write_line};
 use std::alloc::AllocError;
+pub use writing::{push_line, write_line};
 
 /// Want of memory.
 pub type NoMemory = AllocError;
+
+#[cfg(test)]
+mod tests;

@@ -50,7 +50,12 @@ fn push_header(out: &mut Vec<u8>, vars: u64, constraints: u64) -> Result<(), NoM
     push_number(out, constraints)
 }
 
-fn push_derived(out: &mut Vec<u8>, first: &[u8], lits: &[Lit], hints: &[u64]) -> Result<(), NoMemory>
+fn push_derived(
+    out: &mut Vec<u8>,
+    first: &[u8],
+    lits: &[Lit],
+    hints: &[u64],
+) -> Result<(), NoMemory>
     ensures { OnOk result (out.new.items ≡ out.old.items ++ derived_text first.now lits.now hints.now) }
 {
     out.extend_from_slice(first)?;
