@@ -1,3 +1,7 @@
+ghost use Rattle.std.specs.Prelude.{◌≡◌, IfOk};
+ghost use Rattle.kn_logic.specs.Constraints.{klause};
+ghost use Rattle.kn_lines.specs.Lines.{IsWellFormed};
+
 use super::*;
 use kn_logic::{Constraint, Lit};
 use std::alloc::Global;
@@ -85,40 +89,42 @@ fn skips(rt: HostRuntime) {
     }
 }
 
+fn clause(alloc: Global, lits: &[Lit]) -> Result<Constraint, NoMemory>
+    ensures { IfOk result (λ c. c ≡ klause 1 lits.now) }
+{
+    Ok(Constraint::new(1, Vec::from_slice(alloc, lits)?))
+}
+
+fn ids(alloc: Global, list: &[u64]) -> Result<Ids, NoMemory>
+    ensures { IfOk result (λ ids. ids ≡ list.now) }
+{
+    Ok(Ids::new(Vec::from_slice(alloc, list)?))
+}
+
+fn lemma(alloc: Global) -> Result<Line, NoMemory>
+    ensures { IfOk result (λ line. IsWellFormed line) }
+{
+    let clause = clause(alloc, &[Lit::new(7, true), Lit::new(12, false)])?;
+    let hints = ids(alloc, &[3, 40])?;
+    Ok(Line::Lemma { clause, hints })
+}
+
 #[test]
 fn writes(rt: HostRuntime) -> Result<(), Fail> {
-    let alloc = rt.alloc();
+    let line = lemma(rt.alloc())?;
+    let text = write_line(rt.alloc(), &line)?;
+    assert_eq!(rt; text.as_slice(), b"r 7 -12 0 3 40 0\n".as_slice());
+    Ok(())
+}
+
+#[test]
+fn appends(rt: HostRuntime) -> Result<(), Fail> {
+    let mut text = Vec::from_slice(rt.alloc(), b"c")?;
     let header = Line::Header {
         vars: 2,
         constraints: 10,
     };
-    assert_eq!(rt;
-        write_line(alloc, &header)?.as_slice(),
-        b"p kpf 2 10\n".as_slice()
-    );
-    let clause = Constraint::new(1, vec![in alloc; Lit::new(7, true), Lit::new(12, false)]?);
-    let lemma = Line::Lemma {
-        clause,
-        hints: Ids::new(vec![in alloc; 3, 40]?),
-    };
-    assert_eq!(rt;
-        write_line(alloc, &lemma)?.as_slice(),
-        b"r 7 -12 0 3 40 0\n".as_slice()
-    );
-    let clause = Constraint::new(1, Vec::new(alloc));
-    let learned = Line::Learned {
-        clause,
-        hints: Ids::new(vec![in alloc; 5]?),
-    };
-    assert_eq!(rt;
-        write_line(alloc, &learned)?.as_slice(),
-        b"l 0 5 0\n".as_slice()
-    );
-    let delete = Line::Delete {
-        ids: Ids::new(vec![in alloc; 1, 2]?),
-    };
-    let mut text = Vec::from_slice(alloc, b"c")?;
-    push_line(&mut text, &delete)?;
-    assert_eq!(rt; text.as_slice(), b"cx 1 2 0\n".as_slice());
+    push_line(&mut text, &header)?;
+    assert_eq!(rt; text.as_slice(), b"cp kpf 2 10\n".as_slice());
     Ok(())
 }
