@@ -5,7 +5,9 @@ use Rattle.kn_logic.specs.Constraints.{Bounded, is_clause}
 use Rattle.kn_logic.specs.Formulas.{Problem}
 use Rattle.kn_text.specs.Lines.{line_text}
 use Rattle.kn_text.specs.Numbers.{literal_word}
-use Rattle.kn_format.specs.Grammar.{Format, cnf, knf, format_word}
+use Rattle.kn_format.specs.declared.format.Format.{Format}
+use Rattle.kn_format.specs.declared.format.Format.TheVariants.{Cnf, Knf}
+use Rattle.kn_format.specs.Grammar.{format_word}
 
 -- literals and the end mark
 abbrev pub list_words : List Literal → List (List ℕ)
@@ -27,10 +29,10 @@ abbrev pub formula_text : Format → Problem → List ℕ
 formula_text format f = line_text (problem_words format f) ++ flat_map (λ c. line_text (constraint_words c)) f.constraints
 
 abbrev pub knf_text : Problem → List ℕ
-knf_text f = formula_text knf f
+knf_text f = formula_text Knf f
 
 abbrev pub cnf_text : Problem → List ℕ
-cnf_text f = formula_text cnf f
+cnf_text f = formula_text Cnf f
 
 -- the literals that are true, of variables from this one on
 abbrev pub true_literals : ℕ → List Bool → List Literal
