@@ -8,7 +8,9 @@ mod error;
 mod format;
 mod header;
 mod place;
+mod read;
 mod reader;
 
 pub use error::{ReadError, Refusal};
 pub use format::Format;
+pub use read::read_formula;
