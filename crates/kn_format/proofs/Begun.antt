@@ -14,7 +14,7 @@ pub known_append : (vars : ℕ) (xs ys : List Literal) → AreKnown vars xs → 
 known_append vars [] ys first behind = behind
 known_append vars (x ∷ xs) ys first behind = (first.0, known_append vars xs ys first.1 behind)
 
-or_false : (b c : Bool) → b ≡ false → c ≡ false → (b || c) ≡ false
+pub or_false : (b c : Bool) → b ≡ false → c ≡ false → (b || c) ≡ false
 or_false b c e f = rw e f
 
 pub names_append : (xs ys : List Literal) (v : ℕ) → names (xs ++ ys) v ≡ (names xs v || names ys v)
@@ -23,11 +23,11 @@ names_append xs ys v = list_any-append (λ l. l.variable == v) xs ys
 same_apart : (l m : Literal) → (l.variable == m.variable) ≡ false → (m.variable == l.variable) ≡ false
 same_apart l m e = grind arith
 
-or_left : (b c : Bool) → (b || c) ≡ false → b ≡ false
+pub or_left : (b c : Bool) → (b || c) ≡ false → b ≡ false
 or_left false c e = refl
 or_left true c e = e
 
-or_right : (b c : Bool) → (b || c) ≡ false → c ≡ false
+pub or_right : (b c : Bool) → (b || c) ≡ false → c ≡ false
 or_right false c e = e
 or_right true c e = absurd cc
 

@@ -7,6 +7,7 @@
 mod error;
 mod format;
 mod header;
+mod laws;
 mod place;
 mod read;
 mod reader;

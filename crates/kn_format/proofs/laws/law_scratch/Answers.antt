@@ -1,0 +1,6 @@
+use Rattle.std.proofs.Common.{refl}
+use Rattle.kn_format.proofs.Spelled.{is_read}
+use Rattle.kn_format.proofs.laws.law_scratch.Goals as goal
+
+pub returns : goal.returns
+returns c = λ n. refl

@@ -1,0 +1,6 @@
+ghost use Rattle.std.specs.Prelude.{ℕ, ◌≡◌, ◌+◌, List};
+
+/// scratch
+pub fn law_scratch()
+    ensures { (n : ℕ) → n ≡ n }
+{}
