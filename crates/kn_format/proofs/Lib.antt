@@ -1,3 +1,5 @@
 pub mod Begun
 pub mod Steps
 pub mod Spelled
+pub mod Back
+pub mod Whole

@@ -99,7 +99,7 @@ apart_at (x ∷ xs) ys l different =
         or_left _ _ (or_right (names xs x.variable) _ (sym (names_append xs (l ∷ ys) x.variable) ∙ different.0)) in
     or_false (x.variable == l.variable) (names xs l.variable) (test_back l x here) (apart_at xs ys l different.1)
 
-joined_literal : (begun : Bounded) (l : Literal) (lits : List Literal) (c : Bounded) → c ≡ joined begun (l ∷ lits) → c ≡ joined (with_literal begun l) lits
+pub joined_literal : (begun : Bounded) (l : Literal) (lits : List Literal) (c : Bounded) → c ≡ joined begun (l ∷ lits) → c ≡ joined (with_literal begun l) lits
 joined_literal begun l lits c e = e ∙ ap (λ ls. record begun { lits = ls }) (sym (append_assoc begun.lits (l ∷ []) lits))
 
 joined_nothing : (begun : Bounded) (c : Bounded) → c ≡ joined begun [] → begun ≡ c

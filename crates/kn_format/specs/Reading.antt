@@ -35,3 +35,14 @@ pub record Keeps (vars : ℕ) (place : Place) (begun : Bounded) (has_seen : ℕ 
   pub clause : place ≡ Clause → is_clause begun ≡ true
   pub different : is_marked place ≡ true → AreDifferent (named begun)
   pub seen : is_marked place ≡ true → (v : ℕ) → has_seen v ≡ names (named begun) v
+
+-- what the reader answers of a text that spells the formula
+abbrev pub ReadsAs : Problem → Result Problem ReadError → Type 0
+ReadsAs f (Ok g) = g ≡ f
+ReadsAs f (Err Memory) = Unit {0}
+ReadsAs f (Err (Refused r)) = ⊥
+
+abbrev pub IfRefused : {T : Type 0} → Result T ReadError → (Refusal → Type 0) → Type 0
+IfRefused (Ok _) P = Unit {0}
+IfRefused (Err Memory) P = Unit {0}
+IfRefused (Err (Refused r)) P = P r
