@@ -3,3 +3,5 @@ pub mod Steps
 pub mod Spelled
 pub mod Back
 pub mod Whole
+pub mod First
+pub mod Written

@@ -18,8 +18,8 @@ use Rattle.kn_format.specs.declared.header.Header.{Header}
 use Rattle.kn_format.specs.declared.place.Place.{Place}
 use Rattle.kn_format.specs.declared.place.Place.TheVariants.{Between, Guard, Bound, Clause, Klause}
 use Rattle.kn_format.specs.Grammar.{most_variables, most_constraints, format_word, SpellsProblem, SpellConstraints, BeginsTail, IsTail, words_in, SpellsBy, Spells, SpellsNone}
-use Rattle.kn_format.specs.Faults.{Reading, nothing, start, is_full, after, after_words, ◌>>=◌, is_percent, is_between, is_done, ends, at_end, go_on, after_lines, behind_header, read_lines, read_of, refusal, bad_token, no_header, bad_header, too_many_variables, too_many_constraints, missing_constraint, unended, within_limits, format_of, header_from, header_behind, header_of, IsFirstFault}
-use Rattle.kn_format.specs.Reading.{Gives, ReadsAs, IfRefused}
+use Rattle.kn_format.specs.Faults.{Reading, nothing, start, is_full, after, after_words, ◌>>=◌, is_percent, is_between, is_done, ends, at_end, refusal, bad_token, no_header, bad_header, too_many_variables, too_many_constraints, missing_constraint, unended, within_limits, format_of, header_from, header_behind, header_of}
+use Rattle.kn_format.specs.Reading.{go_on, after_lines, behind_header, read_lines, read_of, Gives, ReadsAs, IfRefused}
 use Rattle.kn_format.proofs.Steps.{reading, mark_is}
 use Rattle.kn_format.proofs.Spelled.{is_read}
 use Rattle.kn_format.proofs.Back.{unless, when, okay, is_ok, first_step, constraints_are_spelled}
@@ -99,7 +99,7 @@ one_by_one : (x : Result Reading ℕ) (f g h : Reading → Result Reading ℕ) �
 one_by_one (Ok n) f g h same = same n
 one_by_one (Err cause) f g h same = refl
 
-after_both : (front behind : List (List ℕ)) (r : Reading) → after_words r (front ++ behind) ≡ (after_words r front >>= λ n. after_words n behind)
+pub after_both : (front behind : List (List ℕ)) (r : Reading) → after_words r (front ++ behind) ≡ (after_words r front >>= λ n. after_words n behind)
 after_both [] behind r = refl
 after_both (word ∷ front) behind r =
     one_by_one (after r word) (λ n. after_words n (front ++ behind)) (λ n. after_words n front) (λ n. after_words n behind) (after_both front behind)
@@ -109,12 +109,12 @@ percent_has_cause-at : (format : Format) (count vars : ℕ) (done : List Bounded
 percent_has_cause-at Cnf count vars done begun b word e = ap (λ (c : ℕ). after (reading Cnf count vars done Between begun) (c ∷ word)) e
 percent_has_cause-at Knf count vars done begun b word e = ap (λ (c : ℕ). after (reading Knf count vars done Between begun) (c ∷ word)) e
 
-both_hold : (a b : Bool) → (a && b) ≡ true → (a ≡ true) × (b ≡ true)
+pub both_hold : (a b : Bool) → (a && b) ≡ true → (a ≡ true) × (b ≡ true)
 both_hold true true e = (refl, refl)
 both_hold true false e = absurd cc
 both_hold false b e = absurd cc
 
-ends_has_cause-at : (place : Place) (format : Format) (count vars : ℕ) (done : List Bounded) (begun : Bounded) (words : List (List ℕ)) (s : Reading)
+pub ends_has_cause-at : (place : Place) (format : Format) (count vars : ℕ) (done : List Bounded) (begun : Bounded) (words : List (List ℕ)) (s : Reading)
     → is_between place ≡ true → is_percent words ≡ true → after_words (reading format count vars done place begun) words ≡ Ok s → ⊥
 ends_has_cause-at Between format count vars done begun ((b ∷ word) ∷ words) s at percent e =
     cc (ap (λ x. x >>= λ n. after_words n words) (percent_has_cause-at format count vars done begun b word (eqb-true b 37 percent)))
@@ -126,13 +126,13 @@ ends_has_cause-at Clause format count vars done begun words s at percent e = cc
 ends_has_cause-at Klause format count vars done begun words s at percent e = cc
 
 -- a line that ends the constraints is not read as one of them
-ends_has_cause : (r s : Reading) (words : List (List ℕ)) → ends r words ≡ true → after_words r words ≡ Ok s → ⊥
+pub ends_has_cause : (r s : Reading) (words : List (List ℕ)) → ends r words ≡ true → after_words r words ≡ Ok s → ⊥
 ends_has_cause r s words tail e =
     let t = both_hold (is_done r) (is_percent words) tail in
     let d = both_hold (is_between r.place) (is_full r) t.0 in
     ends_has_cause-at r.place r.format r.count r.formula.vars r.formula.constraints r.begun words s d.0 t.1 e
 
-is_no_tail : (r s : Reading) (words : List (List ℕ)) (t : Bool) → ends r words ≡ t → after_words r words ≡ Ok s → ends r words ≡ false
+pub is_no_tail : (r s : Reading) (words : List (List ℕ)) (t : Bool) → ends r words ≡ t → after_words r words ≡ Ok s → ends r words ≡ false
 is_no_tail r s words true tail e = absurd (ends_has_cause r s words tail e)
 is_no_tail r s words false tail e = tail
 
@@ -274,11 +274,6 @@ pub spelled_found : (bytes : List ℕ) (result : Result Problem ReadError) → G
 spelled_found bytes (Ok g) gives f spells = let e : read_of bytes ≡ Ok f = spelled_is_read bytes f spells in cc
 spelled_found bytes (Err Memory) gives f spells = tt
 spelled_found bytes (Err (Refused r)) gives f spells = let e : read_of bytes ≡ Ok f = spelled_is_read bytes f spells in cc
-
-pub refused_first : (bytes : List ℕ) (result : Result Problem ReadError) → Gives (read_of bytes) result → IfRefused result (IsFirstFault bytes)
-refused_first bytes (Ok f) gives = tt
-refused_first bytes (Err Memory) gives = tt
-refused_first bytes (Err (Refused r)) gives = gives
 
 pub refused_none : (bytes : List ℕ) (result : Result Problem ReadError) → Gives (read_of bytes) result → IfRefused result (λ _. SpellsNone bytes)
 refused_none bytes (Ok f) gives = tt

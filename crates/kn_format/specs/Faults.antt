@@ -1,6 +1,6 @@
 -- The first fault of a text that spells no formula. The words of the constraints are read one after
 -- another, and at each place of the grammar some words have a cause; the first such word is the fault.
-use Rattle.std.specs.Prelude.{ℕ, ◌≡◌, ◌==◌, nat_lt, ◌++◌, Bool, true, false, ◌&&◌, if◌then◌else◌, List, [], ◌∷◌, length, Option, Some, None, Result, Ok, Err, codes}
+use Rattle.std.specs.Prelude.{ℕ, ◌≡◌, ◌==◌, nat_lt, ◌++◌, Bool, true, false, ◌&&◌, ◌⊎◌, if◌then◌else◌, List, [], ◌∷◌, length, Option, Some, None, Result, Ok, Err, codes}
 use Rattle.std.specs.Str.{bytes_eq}
 use Rattle.kn_logic.specs.Literals.{Literal, names}
 use Rattle.kn_logic.specs.Constraints.{Bounded, clause, klause, guarded_klause, named}
@@ -13,7 +13,7 @@ use Rattle.kn_format.specs.declared.format.Format.TheVariants.{Cnf, Knf}
 use Rattle.kn_format.specs.declared.header.Header.{Header}
 use Rattle.kn_format.specs.declared.place.Place.{Place}
 use Rattle.kn_format.specs.declared.place.Place.TheVariants.{Between, Guard, Bound, Clause, Klause}
-use Rattle.kn_format.specs.Grammar.{most_variables, most_constraints, highest_bound}
+use Rattle.kn_format.specs.Grammar.{most_variables, most_constraints, highest_bound, words_in}
 
 -- The causes, as numbers. At one place the least of them decides.
 abbrev pub no_header : ℕ
@@ -196,7 +196,7 @@ is_done r = is_between r.place && is_full r
 abbrev pub ends : Reading → List (List ℕ) → Bool
 ends r words = is_done r && is_percent words
 
--- What is read at the end of a text with so many lines.
+-- What is read where a text of so many lines ends.
 abbrev pub refusal : ℕ → ℕ → Refusal
 refusal line why = record { line = line; why = why }
 
@@ -205,29 +205,36 @@ at_end last r =
     if is_between r.place then (if is_full r then Ok r.formula else Err (refusal last missing_constraint))
     else Err (refusal last unended)
 
--- Going on behind a line of this number, unless a word of it has a cause.
-abbrev pub go_on : ℕ → Result Reading ℕ → (Reading → Result Problem Refusal) → Result Problem Refusal
-go_on number (Ok r) next = next r
-go_on number (Err cause) next = Err (refusal number cause)
+-- A word of these lines is the first that has a cause: the words before it are read, and its line does not
+-- end the constraints.
+pub record IsBadWord (r : Reading) (lines : List Line) (fault : Refusal) : Type 0 where
+  pub before : List Line
+  pub line : Line
+  pub behind : List Line
+  pub front : List (List ℕ)
+  pub word : List ℕ
+  pub back : List (List ℕ)
+  pub here : Reading
+  pub parts : lines ≡ before ++ line ∷ behind
+  pub words : line.words ≡ front ++ word ∷ back
+  pub read : after_words r (words_in before ++ front) ≡ Ok here
+  pub body : front ≡ [] → ends here line.words ≡ false
+  pub cause : after here word ≡ Err fault.why
+  pub number : fault.line ≡ line.number
 
-abbrev pub after_lines : ℕ → Reading → List Line → Result Problem Refusal
-after_lines last r [] = at_end last r
-after_lines last r (line ∷ lines) =
-    if ends r line.words then Ok r.formula
-    else go_on line.number (after_words r line.words) (λ next. after_lines last next lines)
+-- All words of these lines are read, and the text should not end there.
+pub record IsBadEnd (last : ℕ) (r : Reading) (lines : List Line) (fault : Refusal) : Type 0 where
+  pub here : Reading
+  pub read : after_words r (words_in lines) ≡ Ok here
+  pub cause : at_end last here ≡ Err fault
 
-abbrev pub behind_header : ℕ → ℕ → Result Header ℕ → List Line → Result Problem Refusal
-behind_header last number (Err cause) lines = Err (refusal number cause)
-behind_header last number (Ok h) lines = after_lines last (start h) lines
+-- the first fault of the lines that are neither blank nor comments, of a text of so many lines
+abbrev pub IsFaultIn : ℕ → List Line → Refusal → Type 0
+IsFaultIn last [] fault = fault ≡ refusal last no_header
+IsFaultIn last (problem ∷ lines) fault =
+    ((header_of problem.words ≡ Err fault.why) × (fault.line ≡ problem.number))
+    ⊎ ((h : Header) × (header_of problem.words ≡ Ok h) × (IsBadWord (start h) lines fault ⊎ IsBadEnd last (start h) lines fault))
 
-abbrev pub read_lines : ℕ → List Line → Result Problem Refusal
-read_lines last [] = Err (refusal last no_header)
-read_lines last (line ∷ lines) = behind_header last line.number (header_of line.words) lines
-
--- the formula that a text spells, or its first fault
-abbrev pub read_of : List ℕ → Result Problem Refusal
-read_of bytes = read_lines (length (lines_of bytes)) (content_of bytes)
-
--- The text spells no formula, and its first fault is on this line and has this cause.
+-- The text spells no formula; its first fault is on this line, and has this cause.
 abbrev pub IsFirstFault : List ℕ → Refusal → Type 0
-IsFirstFault bytes fault = read_of bytes ≡ Err fault
+IsFirstFault bytes fault = IsFaultIn (length (lines_of bytes)) (content_of bytes) fault

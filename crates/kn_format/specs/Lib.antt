@@ -2,3 +2,4 @@ pub mod Grammar
 pub mod Faults
 pub mod Reading
 pub mod Texts
+pub mod Writing

@@ -1,5 +1,5 @@
--- What the functions that read return, unless memory runs out, and what the reader keeps.
-use Rattle.std.specs.Prelude.{ℕ, ◌≡◌, Bool, true, false, Result, Ok, Err}
+-- What the reader does line by line, what its functions return, unless memory runs out, and what it keeps.
+use Rattle.std.specs.Prelude.{ℕ, ◌≡◌, Bool, true, false, if◌then◌else◌, List, [], ◌∷◌, length, Result, Ok, Err}
 use Rattle.kn_logic.specs.Literals.{AreDifferent, names}
 use Rattle.kn_logic.specs.Constraints.{Bounded, IsWithin, is_clause, named}
 use Rattle.kn_logic.specs.Formulas.{Problem}
@@ -8,7 +8,32 @@ use Rattle.kn_format.specs.declared.error.ReadError.{ReadError}
 use Rattle.kn_format.specs.declared.error.ReadError.TheVariants.{Refused, Memory}
 use Rattle.kn_format.specs.declared.place.Place.{Place}
 use Rattle.kn_format.specs.declared.place.Place.TheVariants.{Between, Guard, Bound, Clause, Klause}
-use Rattle.kn_format.specs.Faults.{Reading}
+use Rattle.kn_text.specs.Lines.{Line, lines_of, content_of}
+use Rattle.kn_format.specs.declared.header.Header.{Header}
+use Rattle.kn_format.specs.Faults.{Reading, start, after_words, ends, at_end, refusal, no_header, header_of}
+
+-- Going on behind a line of this number, unless a word of it has a cause.
+abbrev pub go_on : ℕ → Result Reading ℕ → (Reading → Result Problem Refusal) → Result Problem Refusal
+go_on number (Ok r) next = next r
+go_on number (Err cause) next = Err (refusal number cause)
+
+abbrev pub after_lines : ℕ → Reading → List Line → Result Problem Refusal
+after_lines last r [] = at_end last r
+after_lines last r (line ∷ lines) =
+    if ends r line.words then Ok r.formula
+    else go_on line.number (after_words r line.words) (λ next. after_lines last next lines)
+
+abbrev pub behind_header : ℕ → ℕ → Result Header ℕ → List Line → Result Problem Refusal
+behind_header last number (Err cause) lines = Err (refusal number cause)
+behind_header last number (Ok h) lines = after_lines last (start h) lines
+
+abbrev pub read_lines : ℕ → List Line → Result Problem Refusal
+read_lines last [] = Err (refusal last no_header)
+read_lines last (line ∷ lines) = behind_header last line.number (header_of line.words) lines
+
+-- the formula that a text spells, or its first fault
+abbrev pub read_of : List ℕ → Result Problem Refusal
+read_of bytes = read_lines (length (lines_of bytes)) (content_of bytes)
 
 -- what a call that read on in a line of this number returned, and the reading that it left
 abbrev pub Took : {T : Type 0} → ℕ → Result Reading ℕ → Result T ReadError → Reading → Type 0
@@ -41,6 +66,12 @@ abbrev pub ReadsAs : Problem → Result Problem ReadError → Type 0
 ReadsAs f (Ok g) = g ≡ f
 ReadsAs f (Err Memory) = Unit {0}
 ReadsAs f (Err (Refused r)) = ⊥
+
+-- what it answers of a text whose first fault is this one
+abbrev pub RefusesAs : Refusal → Result Problem ReadError → Type 0
+RefusesAs fault (Ok f) = ⊥
+RefusesAs fault (Err Memory) = Unit {0}
+RefusesAs fault (Err (Refused r)) = r ≡ fault
 
 abbrev pub IfRefused : {T : Type 0} → Result T ReadError → (Refusal → Type 0) → Type 0
 IfRefused (Ok _) P = Unit {0}

@@ -24,9 +24,12 @@ constraint_words c = if is_clause c then list_words c.lits else mark_words c.gua
 abbrev pub problem_words : Format → Problem → List (List ℕ)
 problem_words format f = codes "p" ∷ format_word format ∷ decimal f.vars ∷ decimal (length f.constraints) ∷ []
 
+abbrev pub constraint_line : Bounded → List ℕ
+constraint_line c = line_text (constraint_words c)
+
 -- the problem line, then a line for each constraint
 abbrev pub formula_text : Format → Problem → List ℕ
-formula_text format f = line_text (problem_words format f) ++ flat_map (λ c. line_text (constraint_words c)) f.constraints
+formula_text format f = line_text (problem_words format f) ++ flat_map constraint_line f.constraints
 
 abbrev pub knf_text : Problem → List ℕ
 knf_text f = formula_text Knf f

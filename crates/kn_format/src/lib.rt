@@ -11,7 +11,10 @@ mod laws;
 mod place;
 mod read;
 mod reader;
+mod write;
 
 pub use error::{ReadError, Refusal};
 pub use format::Format;
+pub use laws::a_text_has_one_reading;
 pub use read::read_formula;
+pub use write::{write_cnf, write_knf, write_model};

@@ -1,7 +1,10 @@
 ghost use Rattle.std.specs.Prelude.{◌≡◌, ◌∷◌, [], ◌+◌, ◌^◌, ◌<◌, ◌≤◌, length, IfOk, IfErr};
+ghost use Rattle.kn_logic.specs.Formulas.{Problem};
 ghost use Rattle.kn_text.specs.Lines.{lines_of, words_of, content_from};
-ghost use Rattle.kn_format.specs.Faults.{is_percent, after_lines, read_of};
-ghost use Rattle.kn_format.specs.Reading.{Gives};
+ghost use Rattle.kn_format.specs.declared.error.Refusal.{Refusal};
+ghost use Rattle.kn_format.specs.Grammar.{Spells, SpellsNone};
+ghost use Rattle.kn_format.specs.Faults.{is_percent, IsFirstFault};
+ghost use Rattle.kn_format.specs.Reading.{Gives, after_lines, read_of, ReadsAs, RefusesAs, IfRefused};
 
 use crate::error::ReadError;
 use crate::header::problem_line;
@@ -77,9 +80,14 @@ fn read(alloc: Global, bytes: &[u8]) -> Result<Formula, ReadError>
     }
 }
 
-/// Reads a formula.
+/// Reads a formula from a text of CNF or KNF. The errors are want of memory, and the first fault of a text
+/// that spells no formula.
 pub fn read_formula(alloc: Global, bytes: &[u8]) -> Result<Formula, ReadError>
-    ensures { Gives (read_of bytes.now) result }
+    ensures found { IfOk result (λ f. Spells bytes.now f) }
+    ensures only { (f : Problem) → Spells bytes.now f → ReadsAs f result }
+    ensures refused { IfRefused result (IsFirstFault bytes.now) }
+    ensures first { (fault : Refusal) → IsFirstFault bytes.now fault → RefusesAs fault result }
+    ensures none { IfRefused result (λ _. SpellsNone bytes.now) }
 {
     read(alloc, bytes)
 }

@@ -1,6 +1,6 @@
 use Rattle.std.proofs.Common.{◌≡◌, ◌+◌, ◌<◌, ◌^◌, length}
 use Rattle.kn_text.specs.Lines.{lines_of, content_from}
-use Rattle.kn_format.specs.Faults.{after_lines}
+use Rattle.kn_format.specs.Reading.{after_lines}
 use Rattle.kn_format.proofs.read.read_lines.Given as goal
 
 -- what is left, from the reading so far, gives what the whole gives
