@@ -5,3 +5,4 @@ pub mod Back
 pub mod Whole
 pub mod First
 pub mod Written
+pub mod Again

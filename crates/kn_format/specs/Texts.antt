@@ -1,5 +1,6 @@
 -- The texts that are written of a formula and of an assignment.
-use Rattle.std.specs.Prelude.{ℕ, zero, suc, ◌+◌, ◌++◌, Bool, if◌then◌else◌, List, [], ◌∷◌, length, map, flat_map, Option, Some, None, codes, decimal}
+use Rattle.std.specs.Prelude.{ℕ, ◌≡◌, ◌≤◌, zero, suc, true, ◌+◌, ◌++◌, Bool, if◌then◌else◌, List, [], ◌∷◌, length, map, flat_map, Option, Some, None, codes, decimal}
+use Rattle.std.specs.List.{AllByRecursion}
 use Rattle.kn_logic.specs.Literals.{Literal}
 use Rattle.kn_logic.specs.Constraints.{Bounded, is_clause}
 use Rattle.kn_logic.specs.Formulas.{Problem}
@@ -7,7 +8,7 @@ use Rattle.kn_text.specs.Lines.{line_text}
 use Rattle.kn_text.specs.Numbers.{literal_word}
 use Rattle.kn_format.specs.declared.format.Format.{Format}
 use Rattle.kn_format.specs.declared.format.Format.TheVariants.{Cnf, Knf}
-use Rattle.kn_format.specs.Grammar.{format_word}
+use Rattle.kn_format.specs.Grammar.{format_word, most_variables, most_constraints, highest_bound}
 
 -- literals and the end mark
 abbrev pub list_words : List Literal → List (List ℕ)
@@ -55,3 +56,13 @@ value_lines (suc room) (word ∷ words) = 32 ∷ (word ++ value_lines room words
 -- the model as it is printed
 abbrev pub model_text : List Bool → List ℕ
 model_text values = 118 ∷ value_lines 10 (model_words values)
+
+-- within the limits of what is read
+pub record IsWithinLimits (f : Problem) : Type 0 where
+  pub vars : f.vars ≤ most_variables
+  pub count : length f.constraints ≤ most_constraints
+  pub bounds : AllByRecursion (λ c. c.bound ≤ highest_bound) f.constraints
+
+-- A text of CNF has clauses alone.
+abbrev pub Suits : Format → Problem → Type 0
+Suits format f = format ≡ Cnf → AllByRecursion (λ c. is_clause c ≡ true) f.constraints

@@ -1,11 +1,12 @@
 ghost use Rattle.std.specs.Prelude.{◌≡◌, ◌+◌, ◌++◌, ◌∷◌, [], ℕ, List, length, IfOk, OnOk, decimal, codes, Some, None, true};
 ghost use Rattle.std.specs.List.{AllByRecursion, flat_map};
 ghost use Rattle.kn_logic.specs.Constraints.{is_clause};
+ghost use Rattle.kn_logic.specs.Formulas.{IsFormula};
 ghost use Rattle.kn_text.specs.Lines.{line_text};
 ghost use Rattle.kn_text.specs.Numbers.{literal_word};
-ghost use Rattle.kn_format.specs.Grammar.{format_word};
+ghost use Rattle.kn_format.specs.Grammar.{format_word, Spells};
 ghost use Rattle.kn_format.specs.Writing.{spaced, mark_text};
-ghost use Rattle.kn_format.specs.Texts.{constraint_line, mark_words, formula_text, knf_text, cnf_text, value_lines, list_words, true_literals, model_text};
+ghost use Rattle.kn_format.specs.Texts.{constraint_line, mark_words, formula_text, knf_text, cnf_text, value_lines, list_words, true_literals, model_text, IsWithinLimits};
 
 use crate::format::Format;
 use kn_logic::{Assignment, Constraint, Formula, Lit, NoMemory};
@@ -98,7 +99,8 @@ fn push_problem(out: &mut Vec<u8>, format: Format, vars: u64, count: u64) -> Res
 }
 
 fn write_formula(alloc: Global, format: Format, f: &Formula) -> Result<Vec<u8>, NoMemory>
-    ensures { IfOk result (λ text. text.items ≡ formula_text format f.now) }
+    ensures text { IfOk result (λ text. text.items ≡ formula_text format f.now) }
+    ensures formula { IsFormula f.now }
 {
     let mut out = Vec::new(alloc);
     push_problem(&mut out, format, f.vars(), f.len() as u64)?;
@@ -109,6 +111,7 @@ fn write_formula(alloc: Global, format: Format, f: &Formula) -> Result<Vec<u8>, 
 /// Writes a formula as a text of KNF: the problem line, and each constraint on a line of its own.
 pub fn write_knf(alloc: Global, f: &Formula) -> Result<Vec<u8>, NoMemory>
     ensures text { IfOk result (λ text. text.items ≡ knf_text f.now) }
+    ensures again { IfOk result (λ text. IsWithinLimits f.now → Spells text.items f.now) }
 {
     write_formula(alloc, Format::Knf, f)
 }
@@ -117,6 +120,7 @@ pub fn write_knf(alloc: Global, f: &Formula) -> Result<Vec<u8>, NoMemory>
 pub fn write_cnf(alloc: Global, f: &Formula) -> Result<Vec<u8>, NoMemory>
     requires { AllByRecursion (λ c. is_clause c ≡ true) f.now.constraints }
     ensures text { IfOk result (λ text. text.items ≡ cnf_text f.now) }
+    ensures again { IfOk result (λ text. IsWithinLimits f.now → Spells text.items f.now) }
 {
     write_formula(alloc, Format::Cnf, f)
 }
@@ -147,7 +151,7 @@ fn push_values(out: &mut Vec<u8>, values: &[bool]) -> Result<u64, NoMemory>
 /// Writes an assignment as a model: the literals that are true, ascending by variable, and then `0`, ten
 /// numbers to a line, each line begun by `v`.
 pub fn write_model(alloc: Global, m: &Assignment) -> Result<Vec<u8>, NoMemory>
-    ensures text { IfOk result (λ text. text.items ≡ model_text m.now) }
+    ensures { IfOk result (λ text. text.items ≡ model_text m.now) }
 {
     let mut out = Vec::new(alloc);
     out.push(b'v')?;
