@@ -18,3 +18,6 @@ pub use format::Format;
 pub use laws::a_text_has_one_reading;
 pub use read::read_formula;
 pub use write::{write_cnf, write_knf, write_model};
+
+#[cfg(test)]
+mod tests;

@@ -1,6 +1,6 @@
 ghost use Rattle.std.specs.Prelude.{◌≡◌, ◌≤◌, [], ◌∷◌, true, false, OnOk, IfOk, not, if◌then◌else◌, Ok, Err};
 ghost use Rattle.kn_logic.specs.Literals.{IsKnown, names};
-ghost use Rattle.kn_logic.specs.Constraints.{klause, guarded_klause, named};
+ghost use Rattle.kn_logic.specs.Constraints.{clause, guarded_klause, named};
 ghost use Rattle.kn_text.specs.Lines.{words_of};
 ghost use Rattle.kn_text.specs.Numbers.{literal_of, number_of};
 ghost use Rattle.kn_format.specs.Faults.{nothing, begin, with_bound, first_literal, empty_clause, start, is_full, is_between, is_done, is_above, marks, complete, with_literal, between, guard, bound, end, within_clause, within_klause, after, after_words, at_end, repeated_variable};
@@ -97,15 +97,26 @@ impl Reader {
         }
     }
 
-    // Begins a constraint of which nothing is known but its bound.
-    fn begin(&mut self, place: Place, bound: u64)
-        requires { place ≡ Clause → bound ≡ 1 }
-        ensures { self.new ≡ record self.old { place = place; begun = klause bound [] } }
+    // A clause begins.
+    fn begin(&mut self)
+        ensures { self.new ≡ record self.old { place = Clause; begun = clause [] } }
+    {
+        let alloc = *self.lits.allocator();
+        self.place = Place::Clause;
+        self.guard = None;
+        self.bound = 1;
+        self.lits = Vec::new(alloc);
+    }
+
+    // A klause begins, of which nothing is known.
+    fn begin_marked(&mut self, place: Place)
+        requires { is_marked place ≡ true }
+        ensures { self.new ≡ record self.old { place = place; begun = nothing } }
     {
         let alloc = *self.lits.allocator();
         self.place = place;
         self.guard = None;
-        self.bound = bound;
+        self.bound = 0;
         self.lits = Vec::new(alloc);
         self.seen = HashSet::new(alloc);
     }
@@ -177,7 +188,7 @@ impl Reader {
         if self.is_full() {
             return Err(refused(line, 9));
         }
-        self.begin(place, 0);
+        self.begin_marked(place);
         Ok(())
     }
 
@@ -190,7 +201,7 @@ impl Reader {
         if self.is_full() {
             return Err(refused(line, 9));
         }
-        self.begin(Place::Clause, 1);
+        self.begin();
         self.add(lit)?;
         Ok(())
     }
@@ -201,7 +212,7 @@ impl Reader {
         if self.is_full() {
             return Err(refused(line, 9));
         }
-        self.begin(Place::Clause, 1);
+        self.begin();
         self.complete()?;
         Ok(())
     }
