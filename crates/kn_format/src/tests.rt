@@ -14,7 +14,7 @@ fn fault(alloc: Global, text: &[u8]) -> (u64, u8) {
 
 const WHOLE: &[u8; 19] = b"p cnf 1 2\n1 0\n-1 0\n";
 
-const CUT: [(u64, u8); 20] = [
+const CUT: &[(u64, u8); 20] = &[
     (0, 1),
     (1, 2),
     (1, 2),
@@ -37,7 +37,7 @@ const CUT: [(u64, u8); 20] = [
     (0, 0),
 ];
 
-const HEADERS: [(&[u8], (u64, u8)); 22] = [
+const HEADERS: &[(&[u8], (u64, u8))] = &[
     (b"\n\n", (2, 1)),
     (b"c only", (1, 1)),
     (b"1 0\np cnf 1 1\n1 0\n", (1, 1)),
@@ -62,7 +62,7 @@ const HEADERS: [(&[u8], (u64, u8)); 22] = [
     (b"p cnf 0 0\n% 1 2", (0, 0)),
 ];
 
-const BODIES: [(&[u8], (u64, u8)); 56] = [
+const BODIES: &[(&[u8], (u64, u8))] = &[
     (b"p cnf 1 1\n-0 0\n", (2, 5)),
     (b"p cnf 1 1\n+1 0\n", (2, 5)),
     (b"p cnf 1 1\n1 % 0\n", (2, 5)),
@@ -127,10 +127,10 @@ fn finds_first_faults(rt: HostRuntime) {
         assert_eq!(rt; fault(rt.alloc(), &WHOLE[..m]), *want, "cut at {m}");
     }
     for (text, want) in HEADERS {
-        assert_eq!(rt; fault(rt.alloc(), text), want, "of {} bytes", text.len());
+        assert_eq!(rt; fault(rt.alloc(), text), *want, "of {} bytes", text.len());
     }
     for (text, want) in BODIES {
-        assert_eq!(rt; fault(rt.alloc(), text), want, "of {} bytes", text.len());
+        assert_eq!(rt; fault(rt.alloc(), text), *want, "of {} bytes", text.len());
     }
 }
 
