@@ -14,3 +14,6 @@ pub use laws::{
 };
 pub use lines::{first_line, first_word, is_skipped};
 pub use numbers::{is_end, literal, number, push_literal, push_number};
+
+#[cfg(test)]
+mod tests;

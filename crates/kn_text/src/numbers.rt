@@ -50,8 +50,8 @@ fn literal_from(positive: bool, variable: u64) -> Option<Lit>
     Some(Lit::new(variable, positive))
 }
 
-/// Appends a number in decimal digits. It fails only where `out` lacks room for them, and then leaves it as
-/// it was.
+/// Appends a number in decimal digits. It fails only where `out` lacks room for them, and then leaves its
+/// bytes as they were.
 pub fn push_number(out: &mut Vec<u8>, n: u64) -> Result<(), NoMemory>
     ensures ok { OnOk result (out.new.items ≡ out.old.items ++ decimal n) }
     ensures err { OnErr result (out.new.items ≡ out.old.items) }
@@ -62,7 +62,7 @@ pub fn push_number(out: &mut Vec<u8>, n: u64) -> Result<(), NoMemory>
 }
 
 /// Appends the word of a literal: its variable in decimal digits, behind a `-` where it is negative. It
-/// fails only where `out` lacks room for them, and then leaves it as it was.
+/// fails only where `out` lacks room for the word, and then leaves its bytes as they were.
 pub fn push_literal(out: &mut Vec<u8>, lit: Lit) -> Result<(), NoMemory>
     ensures ok { OnOk result (out.new.items ≡ out.old.items ++ literal_word lit) }
     ensures err { OnErr result (out.new.items ≡ out.old.items) }
