@@ -1,7 +1,6 @@
 -- A text that was written of a formula spells it.
-use Rattle.std.proofs.Common.{◌≡◌, ℕ, ◌+◌, ◌≤◌, ◌<◌, ◌^◌, ◌==◌, Bool, true, false, ◌&&◌, if◌then◌else◌, List, [], ◌∷◌, ◌++◌, length, map, Option, Some, None, refl, sym, ap, subst, ◌∙◌, append_assoc, arith, inl, inr, ◌⊎◌}
+use Rattle.std.proofs.Common.{◌≡◌, ℕ, ◌+◌, ◌≤◌, ◌==◌, Bool, true, false, ◌&&◌, List, [], ◌∷◌, ◌++◌, length, map, Option, Some, None, refl, sym, ap, subst, ◌∙◌, append_assoc, arith, inl, inr}
 use Rattle.std.proofs.lemmas.Bool.{eqb-true}
-use Rattle.std.proofs.lemmas.Bool.Decides.{nat_tests}
 use Rattle.std.proofs.lemmas.List.{append-nil}
 use Rattle.std.specs.Prelude.{Result, Ok, Err, IfOk, codes, decimal, IfSome, IsSome}
 use Rattle.std.specs.Option.{is_none}
@@ -10,13 +9,12 @@ use Rattle.kn_logic.specs.Literals.{Literal, IsKnown, AreKnown, AreDifferent}
 use Rattle.kn_logic.specs.Constraints.{Bounded, clause, klause, is_clause, named, Fits}
 use Rattle.kn_logic.specs.Formulas.{Problem, IsFormula}
 use Rattle.kn_text.specs.Lines.{Line, is_blank, content_of, numbered, line_text, IsPlain, IsPlainLine, IsContent}
-use Rattle.kn_text.specs.Numbers.{number_of, literal_of, literal_word, is_end}
 use Rattle.kn_text.specs.Lists.{LiteralsThen}
 use Rattle.kn_text.proofs.Spelled.{number_of_decimal, decimal_is_plain, literal_word_is_plain, literal_of_word, literal_not_skipped}
 use Rattle.kn_text.proofs.Written.{content_of_lines}
 use Rattle.kn_format.specs.declared.format.Format.{Format}
 use Rattle.kn_format.specs.declared.format.Format.TheVariants.{Cnf, Knf}
-use Rattle.kn_format.specs.Grammar.{most_variables, most_constraints, highest_bound, format_word, ClauseThen, BoundThen, MarkedThen, ConstraintThen, SpellConstraints, words_in, SpellsBy, Spells}
+use Rattle.kn_format.specs.Grammar.{most_variables, most_constraints, highest_bound, format_word, ClauseThen, MarkedThen, ConstraintThen, SpellConstraints, words_in, Spells}
 use Rattle.kn_format.specs.Texts.{list_words, mark_words, constraint_words, constraint_line, problem_words, formula_text, IsWithinLimits, Suits}
 
 -- literals
@@ -56,13 +54,28 @@ some_is (Some m) l e = refl
 
 marked_spelled : (behind : List (List ℕ) → Type 0) (vars : ℕ) (c : Bounded) (guard : Option Literal) (rest : List (List ℕ)) → c.guard ≡ guard → vars ≤ most_variables → c.bound ≤ highest_bound
     → Fits vars c → AreDifferent (named c) → behind rest → MarkedThen behind (mark_words guard c.bound ++ (list_words c.lits ++ rest)) c
-marked_spelled behind vars c None rest e small bound fits different more =
-    (inl (refl, (ap (λ g. record c { guard = g }) e,
-        (number_of_decimal c.bound (omega arith), bound, list_spelled behind vars c.lits rest small fits.within.lits more))), different)
+marked_spelled behind vars c None rest e small bound fits different more = (
+  inl (
+    refl,
+    (
+      ap (λ g. record c { guard = g }) e,
+      (number_of_decimal c.bound (omega arith), bound, list_spelled behind vars c.lits rest small fits.within.lits more),
+    ),
+  ),
+  different,
+)
 marked_spelled behind vars c (Some l) rest e small bound fits different more =
-    let known : IsKnown vars l = subst (λ (g : Option Literal). IfSome g (IsKnown vars)) e fits.within.guard in
-    (inr (refl, (some_is c.guard l e, literal_of_word l (known.0, omega (arith, known.1)) ∙ sym e,
-        (number_of_decimal c.bound (omega arith), bound, list_spelled behind vars c.lits rest small fits.within.lits more))), different)
+    let known : IsKnown vars l = subst (λ (g : Option Literal). IfSome g (IsKnown vars)) e fits.within.guard in (
+      inr (
+        refl,
+        (
+          some_is c.guard l e,
+          literal_of_word l (known.0, omega (arith, known.1)) ∙ sym e,
+          (number_of_decimal c.bound (omega arith), bound, list_spelled behind vars c.lits rest small fits.within.lits more),
+        ),
+      ),
+      different,
+    )
 
 abbrev MayStand : Format → Bounded → Type 0
 MayStand format c = (c.bound ≤ highest_bound) × (format ≡ Cnf → is_clause c ≡ true)
@@ -71,19 +84,19 @@ constraint_spelled-at : (format : Format) (behind : List (List ℕ) → Type 0) 
     → Fits vars c → behind rest → ConstraintThen format behind (constraint_words c ++ rest) c
 constraint_spelled-at format behind vars c rest true e small may fits more =
     subst (λ (ws : List (List ℕ)). ConstraintThen format behind (ws ++ rest) c) (sym (clause_words c e))
-        (clause_spelled format behind (list_words c.lits ++ rest) c (is_clause_of c e, list_spelled behind vars c.lits rest small fits.within.lits more))
+    (clause_spelled format behind (list_words c.lits ++ rest) c (is_clause_of c e, list_spelled behind vars c.lits rest small fits.within.lits more))
 constraint_spelled-at Cnf behind vars c rest false e small may fits more = let yes : is_clause c ≡ true = may.1 refl in absurd cc
 constraint_spelled-at Knf behind vars c rest false e small may fits more =
     subst (λ (ws : List (List ℕ)). ConstraintThen Knf behind ws c)
-        (sym (append_assoc (mark_words c.guard c.bound) (list_words c.lits) rest) ∙ ap (λ ws. ws ++ rest) (sym (klause_words c e)))
-        (inr (marked_spelled behind vars c c.guard rest refl small may.0 fits (fits.different e) more))
+    (sym (append_assoc (mark_words c.guard c.bound) (list_words c.lits) rest) ∙ ap (λ ws. ws ++ rest) (sym (klause_words c e)))
+    (inr (marked_spelled behind vars c c.guard rest refl small may.0 fits (fits.different e) more))
 
 constraints_spelled : (format : Format) (vars number : ℕ) (cs : List Bounded) → vars ≤ most_variables → AllByRecursion (MayStand format) cs → AllByRecursion (Fits vars) cs
     → SpellConstraints format (words_in (numbered number (map constraint_words cs))) cs
 constraints_spelled format vars number [] small may fits = refl
 constraints_spelled format vars number (c ∷ cs) small may fits =
     constraint_spelled-at format (λ behind. SpellConstraints format behind cs) vars c (words_in (numbered (number + 1) (map constraint_words cs))) (is_clause c) refl small may.0 fits.0
-        (constraints_spelled format vars (number + 1) cs small may.1 fits.1)
+    (constraints_spelled format vars (number + 1) cs small may.1 fits.1)
 
 -- the lines
 byte_is_plain : (b : ℕ) → is_blank b ≡ false → (b == 10) ≡ false → IsPlain (b ∷ [])
@@ -122,13 +135,13 @@ record IsLine (words : List (List ℕ)) : Type 0 where
 constraint_is_line : (vars : ℕ) (c : Bounded) (t : Bool) → is_clause c ≡ t → vars ≤ most_variables → c.bound ≤ highest_bound → Fits vars c → IsLine (constraint_words c)
 constraint_is_line vars c true e small low fits =
     subst (λ (ws : List (List ℕ)). IsLine ws) (sym (clause_words c e))
-        (record { plain = list_is_plain vars c.lits small fits.within.lits; content = list_is_content vars c.lits small fits.within.lits })
+    (record { plain = list_is_plain vars c.lits small fits.within.lits; content = list_is_content vars c.lits small fits.within.lits })
 constraint_is_line vars c false e small low fits =
     subst (λ (ws : List (List ℕ)). IsLine ws) (sym (klause_words c e))
-        (record {
-          plain = mark_is_plain vars c.bound c.guard (list_words c.lits) small low fits.within.guard (list_is_plain vars c.lits small fits.within.lits);
-          content = mark_is_content c.guard c.bound (list_words c.lits);
-        })
+    (record {
+      plain = mark_is_plain vars c.bound c.guard (list_words c.lits) small low fits.within.guard (list_is_plain vars c.lits small fits.within.lits);
+      content = mark_is_content c.guard c.bound (list_words c.lits);
+    })
 
 plain_lines : (format : Format) (vars : ℕ) (cs : List Bounded) → vars ≤ most_variables → AllByRecursion (MayStand format) cs → AllByRecursion (Fits vars) cs → AllByRecursion IsPlainLine (map constraint_words cs)
 plain_lines format vars [] small may fits = tt
@@ -164,24 +177,29 @@ content_written format f formula suits limits =
     let may : AllByRecursion (MayStand format) f.constraints = may_stand format f.constraints limits.bounds suits in
     ap (λ t. content_of (line_text (problem_words format f) ++ t)) (sym (lines_written f.constraints))
     ∙ content_of_lines (problem_words format f ∷ map constraint_words f.constraints)
-        (problem_is_plain format f.vars (length f.constraints) limits.vars limits.count, plain_lines format f.vars f.constraints limits.vars may formula)
-        (refl, content_lines format f.vars f.constraints limits.vars may formula)
+    (problem_is_plain format f.vars (length f.constraints) limits.vars limits.count, plain_lines format f.vars f.constraints limits.vars may formula)
+    (refl, content_lines format f.vars f.constraints limits.vars may formula)
 
 -- the text that is written of a formula spells it
 written_is_spelled : (format : Format) (f : Problem) (text : List ℕ) → text ≡ formula_text format f → IsFormula f → Suits format f → IsWithinLimits f → Spells text f
 written_is_spelled format f text e formula suits limits =
     let may : AllByRecursion (MayStand format) f.constraints = may_stand format f.constraints limits.bounds suits in
     let problem : Line = record { number = 1; words = problem_words format f } in
-    let body : List Line = numbered 2 (map constraint_words f.constraints) in
-    (format, problem, body, [], record {
-      parts = ap content_of e ∙ content_written format f formula suits limits ∙ ap (λ ls. problem ∷ ls) (sym (append-nil body));
-      header = (refl, refl, number_of_decimal f.vars (omega (arith, limits.vars)), number_of_decimal (length f.constraints) (omega (arith, limits.count)));
-      constraints = constraints_spelled format f.vars 2 f.constraints limits.vars may formula;
-      ending = tt;
-      vars = limits.vars;
-      count = limits.count;
-      formula = formula;
-    })
+    let body : List Line = numbered 2 (map constraint_words f.constraints) in (
+      format,
+      problem,
+      body,
+      [],
+      record {
+        parts = ap content_of e ∙ content_written format f formula suits limits ∙ ap (λ ls. problem ∷ ls) (sym (append-nil body));
+        header = (refl, refl, number_of_decimal f.vars (omega (arith, limits.vars)), number_of_decimal (length f.constraints) (omega (arith, limits.count)));
+        constraints = constraints_spelled format f.vars 2 f.constraints limits.vars may formula;
+        ending = tt;
+        vars = limits.vars;
+        count = limits.count;
+        formula = formula;
+      },
+    )
 
 pub spelled_again : {T E : Type 0} (items : T → List ℕ) (format : Format) (f : Problem) (result : Result T E) → IfOk result (λ t. items t ≡ formula_text format f) → IsFormula f → Suits format f
     → IfOk result (λ t. IsWithinLimits f → Spells (items t) f)

@@ -1,27 +1,25 @@
 -- What is read was spelled.
-use Rattle.std.proofs.Common.{◌≡◌, ℕ, suc, ◌+◌, ◌≤◌, ◌==◌, nat_lt, Bool, true, false, if◌then◌else◌, List, [], ◌∷◌, ◌++◌, length, Option, Some, None, Ok, Err, refl, sym, ap, subst, ◌∙◌, append_assoc, arith, inl, inr, ◌⊎◌}
+use Rattle.std.proofs.Common.{◌≡◌, ℕ, ◌≤◌, ◌==◌, nat_lt, Bool, true, false, if◌then◌else◌, List, [], ◌∷◌, ◌++◌, length, Option, Some, None, Ok, Err, refl, sym, ap, subst, ◌∙◌, append_assoc, inl, inr}
 use Rattle.std.proofs.lemmas.List.{append-nil}
 use Rattle.std.proofs.lemmas.Bool.{ltb-false}
 use Rattle.std.proofs.lemmas.Slice.Eq.{bytes_eq-Decides}
-use Rattle.std.specs.Prelude.{Result, IsSome, codes}
+use Rattle.std.specs.Prelude.{Result, codes}
 use Rattle.std.specs.Str.{bytes_eq}
 use Rattle.std.specs.List.{AllByRecursion}
-use Rattle.kn_logic.specs.Literals.{Literal, IsKnown, AreKnown, AreDifferent, names}
+use Rattle.kn_logic.specs.Literals.{Literal, IsKnown, AreDifferent, names}
 use Rattle.kn_logic.specs.Constraints.{Bounded, clause, klause, guarded_klause, named, is_clause, IsWithin, Fits}
-use Rattle.kn_logic.specs.Formulas.{Problem}
 use Rattle.kn_text.specs.Numbers.{number_of, literal_of, is_end}
-use Rattle.kn_text.specs.Lists.{LiteralsThen}
 use Rattle.kn_text.proofs.Spelled.{literal_of_writable}
 use Rattle.kn_format.specs.declared.format.Format.{Format}
 use Rattle.kn_format.specs.declared.format.Format.TheVariants.{Cnf, Knf}
 use Rattle.kn_format.specs.declared.place.Place.{Place}
 use Rattle.kn_format.specs.declared.place.Place.TheVariants.{Between, Guard, Bound, Clause, Klause}
-use Rattle.kn_format.specs.Grammar.{highest_bound, ClauseThen, BoundThen, KlauseThen, GuardThen, MarkedThen, ConstraintThen, SpellConstraints}
-use Rattle.kn_format.specs.Faults.{Reading, nothing, complete, with_literal, with_bound, is_full, is_above, begin, first_literal, empty_clause, first_word, between, guard, bound, end, within_clause, within_klause, after, after_words, ◌>>=◌, bad_token, variable_above_header, bound_too_large, repeated_variable, extra_constraint}
+use Rattle.kn_format.specs.Grammar.{highest_bound, ClauseThen, BoundThen, KlauseThen, GuardThen, ConstraintThen, SpellConstraints}
+use Rattle.kn_format.specs.Faults.{Reading, nothing, with_literal, with_bound, begin, empty_clause, first_word, guard, bound, within_clause, within_klause, after, after_words, ◌>>=◌, bad_token, variable_above_header, bound_too_large, repeated_variable, extra_constraint}
 use Rattle.kn_format.specs.Reading.{is_marked}
 use Rattle.kn_format.proofs.Begun.{known_append, different_more, named_more}
 use Rattle.kn_format.proofs.Steps.{reading}
-use Rattle.kn_format.proofs.Spelled.{Then, joined, InClause, InKlause, AtBound, AtGuard, Rest, joined_literal}
+use Rattle.kn_format.proofs.Spelled.{Then, joined, Rest}
 
 pub unless : {A E : Type 0} (t : Bool) (cause : E) (x : Result A E) (s : A) → (if t then Err cause else x) ≡ Ok s → (t ≡ false) × (x ≡ Ok s)
 unless true cause x s e = absurd cc
@@ -113,15 +111,15 @@ in_clause : (word : List ℕ) (words : List (List ℕ)) (more : IsSpelled words)
 in_clause word words more format count vars done begun next s (Some l) good e read behind last =
     let u = unless (nat_lt vars l.variable) variable_above_header (Ok (reading format count vars done Clause (with_literal begun l))) next read in
     goes_on format count vars done Clause Clause begun (with_literal begun l) word words s
-        (more format count vars done Clause (with_literal begun l) s (good_clause vars begun l good (known vars word l e u.0)) (at_next _ next s words u.1 behind) last)
-        (clause_goes_on format begun word words l e)
+    (more format count vars done Clause (with_literal begun l) s (good_clause vars begun l good (known vars word l e u.0)) (at_next _ next s words u.1 behind) last)
+    (clause_goes_on format begun word words l e)
 in_clause word words more format count vars done begun next s None good e read behind last =
     let u = when (is_end word) bad_token (Ok (reading format count vars (done ++ begun ∷ []) Between nothing)) next read in
     let f : Found format count vars (done ++ begun ∷ []) Between nothing words s =
-        more format count vars (done ++ begun ∷ []) Between nothing s (good_nothing vars Between (λ e. cc)) (at_next _ next s words u.1 behind) last in
+    more format count vars (done ++ begun ∷ []) Between nothing s (good_nothing vars Between (λ e. cc)) (at_next _ next s words u.1 behind) last in
     followed format count vars done begun Clause begun word words s f
-        (record { within = good.within; different = λ is. let yes : is_clause begun ≡ true = good.clause refl in absurd cc })
-        (record { lits = []; whole = whole_begun begun; spelled = (u.0, f.rest) })
+    (record { within = good.within; different = λ is. let yes : is_clause begun ≡ true = good.clause refl in absurd cc })
+    (record { lits = []; whole = whole_begun begun; spelled = (u.0, f.rest) })
 
 -- within a klause
 klause_goes_on : (format : Format) (begun : Bounded) (word : List ℕ) (words : List (List ℕ)) (l : Literal) → literal_of word ≡ Some l
@@ -144,15 +142,15 @@ in_klause word words more format count vars done begun next s (Some l) good e re
     let u = unless (nat_lt vars l.variable) variable_above_header (if names (named begun) l.variable then Err repeated_variable else Ok (reading format count vars done Klause (with_literal begun l))) next read in
     let v = unless (names (named begun) l.variable) repeated_variable (Ok (reading format count vars done Klause (with_literal begun l))) next u.1 in
     goes_on format count vars done Klause Klause begun (with_literal begun l) word words s
-        (more format count vars done Klause (with_literal begun l) s (good_klause vars begun l good (known vars word l e u.0) v.0) (at_next _ next s words v.1 behind) last)
-        (klause_goes_on format begun word words l e)
+    (more format count vars done Klause (with_literal begun l) s (good_klause vars begun l good (known vars word l e u.0) v.0) (at_next _ next s words v.1 behind) last)
+    (klause_goes_on format begun word words l e)
 in_klause word words more format count vars done begun next s None good e read behind last =
     let u = when (is_end word) bad_token (Ok (reading format count vars (done ++ begun ∷ []) Between nothing)) next read in
     let f : Found format count vars (done ++ begun ∷ []) Between nothing words s =
-        more format count vars (done ++ begun ∷ []) Between nothing s (good_nothing vars Between (λ e. cc)) (at_next _ next s words u.1 behind) last in
+    more format count vars (done ++ begun ∷ []) Between nothing s (good_nothing vars Between (λ e. cc)) (at_next _ next s words u.1 behind) last in
     followed format count vars done begun Klause begun word words s f
-        (record { within = good.within; different = λ _. good.different refl })
-        (record { lits = []; whole = whole_begun begun; spelled = (u.0, f.rest); different = good.different refl })
+    (record { within = good.within; different = λ _. good.different refl })
+    (record { lits = []; whole = whole_begun begun; spelled = (u.0, f.rest); different = good.different refl })
 
 -- behind `k` or a guard
 bound_goes_on : (format : Format) (begun : Bounded) (word : List ℕ) (words : List (List ℕ)) (n : ℕ) → number_of word ≡ Some n → n ≤ highest_bound
@@ -166,10 +164,10 @@ at_bound : (word : List ℕ) (words : List (List ℕ)) (more : IsSpelled words) 
 at_bound word words more format count vars done begun next s (Some n) good e read behind last =
     let u = unless (nat_lt highest_bound n) bound_too_large (Ok (reading format count vars done Klause (with_bound begun n))) next read in
     goes_on format count vars done Bound Klause begun (with_bound begun n) word words s
-        (more format count vars done Klause (with_bound begun n) s
-            (record { within = record { guard = good.within.guard; lits = good.within.lits }; clause = λ e. absurd cc; different = λ e. good.different refl })
-            (at_next _ next s words u.1 behind) last)
-        (bound_goes_on format begun word words n e (ltb-false highest_bound n u.0))
+    (more format count vars done Klause (with_bound begun n) s
+    (record { within = record { guard = good.within.guard; lits = good.within.lits }; clause = λ e. absurd cc; different = λ e. good.different refl })
+    (at_next _ next s words u.1 behind) last)
+    (bound_goes_on format begun word words n e (ltb-false highest_bound n u.0))
 at_bound word words more format count vars done begun next s None good e read behind last = absurd cc
 
 guard_then : (format : Format) (cs : List Bounded) (words : List (List ℕ)) (guard : Option Literal) (bound : ℕ) (lits : List Literal)
@@ -193,10 +191,10 @@ at_guard : (word : List ℕ) (words : List (List ℕ)) (more : IsSpelled words) 
 at_guard word words more format count vars done begun next s (Some l) e read behind last =
     let u = unless (nat_lt vars l.variable) variable_above_header (Ok (reading format count vars done Bound (guarded_klause l 0 []))) next read in
     goes_on format count vars done Guard Bound begun (guarded_klause l 0 []) word words s
-        (more format count vars done Bound (guarded_klause l 0 []) s
-            (record { within = record { guard = known vars word l e u.0; lits = tt }; clause = λ e. absurd cc; different = λ e. (refl, tt) })
-            (at_next _ next s words u.1 behind) last)
-        (guard_goes_on format begun word words l e)
+    (more format count vars done Bound (guarded_klause l 0 []) s
+    (record { within = record { guard = known vars word l e u.0; lits = tt }; clause = λ e. absurd cc; different = λ e. (refl, tt) })
+    (at_next _ next s words u.1 behind) last)
+    (guard_goes_on format begun word words l e)
 at_guard word words more format count vars done begun next s None e read behind last = absurd cc
 
 -- where a constraint begins
@@ -209,7 +207,7 @@ clause_begins : (format : Format) (begun : Bounded) (word : List ℕ) (words : L
 clause_begins format begun word words l e [] rest = absurd rest
 clause_begins format begun word words l e (c ∷ cs) rest =
     as_clause format (Then format cs) word words c
-        (subst (λ (d : Bounded). ClauseThen (Then format cs) (word ∷ words) d) (sym rest.whole) (refl, (e, rest.spelled)))
+    (subst (λ (d : Bounded). ClauseThen (Then format cs) (word ∷ words) d) (sym rest.whole) (refl, (e, rest.spelled)))
 
 at_first : (word : List ℕ) (words : List (List ℕ)) (more : IsSpelled words) (format : Format) (count vars : ℕ) (done : List Bounded) (begun : Bounded) (next s : Reading) (o : Option Literal)
     → literal_of word ≡ o → first_word (reading format count vars done Between begun) word o ≡ Ok next → after_words next words ≡ Ok s → s.place ≡ Between
@@ -218,18 +216,18 @@ at_first word words more format count vars done begun next s (Some l) e read beh
     let u = unless (nat_lt vars l.variable) variable_above_header (begin (reading format count vars done Between begun) Clause (clause (l ∷ []))) next read in
     let v = unless (length done == count) extra_constraint (Ok (reading format count vars done Clause (clause (l ∷ [])))) next u.1 in
     goes_on format count vars done Between Clause begun (clause (l ∷ [])) word words s
-        (more format count vars done Clause (clause (l ∷ [])) s
-            (record { within = record { guard = tt; lits = (known vars word l e u.0, tt) }; clause = λ e. refl; different = λ e. absurd cc })
-            (at_next _ next s words v.1 behind) last)
-        (clause_begins format begun word words l e)
+    (more format count vars done Clause (clause (l ∷ [])) s
+    (record { within = record { guard = tt; lits = (known vars word l e u.0, tt) }; clause = λ e. refl; different = λ e. absurd cc })
+    (at_next _ next s words v.1 behind) last)
+    (clause_begins format begun word words l e)
 at_first word words more format count vars done begun next s None e read behind last =
     let u = when (is_end word) bad_token (empty_clause (reading format count vars done Between begun)) next read in
     let v = unless (length done == count) extra_constraint (Ok (reading format count vars (done ++ clause [] ∷ []) Between nothing)) next u.1 in
     let f : Found format count vars (done ++ clause [] ∷ []) Between nothing words s =
-        more format count vars (done ++ clause [] ∷ []) Between nothing s (good_nothing vars Between (λ e. cc)) (at_next _ next s words v.1 behind) last in
+    more format count vars (done ++ clause [] ∷ []) Between nothing s (good_nothing vars Between (λ e. cc)) (at_next _ next s words v.1 behind) last in
     followed format count vars done (clause []) Between begun word words s f
-        (record { within = record { guard = tt; lits = tt }; different = λ e. tt })
-        (as_clause format (Then format f.cs) word words (clause []) (refl, (u.0, f.rest)))
+    (record { within = record { guard = tt; lits = tt }; different = λ e. tt })
+    (as_clause format (Then format f.cs) word words (clause []) (refl, (u.0, f.rest)))
 
 k_begins : (begun : Bounded) (word : List ℕ) (words : List (List ℕ)) → word ≡ codes "k"
     → (cs : List Bounded) → Rest Knf Bound nothing words cs → Rest Knf Between begun (word ∷ words) cs
@@ -250,22 +248,22 @@ at_q : (word : List ℕ) (words : List (List ℕ)) (more : IsSpelled words) (cou
 at_q word words more count vars done begun next s true e read behind last =
     let u = unless (length done == count) extra_constraint (Ok (reading Knf count vars done Guard nothing)) next read in
     goes_on Knf count vars done Between Guard begun nothing word words s
-        (more Knf count vars done Guard nothing s (good_nothing vars Guard (λ e. cc)) (at_next _ next s words u.1 behind) last)
-        (q_begins begun word words ((bytes_eq-Decides word (codes "q")).0 e))
+    (more Knf count vars done Guard nothing s (good_nothing vars Guard (λ e. cc)) (at_next _ next s words u.1 behind) last)
+    (q_begins begun word words ((bytes_eq-Decides word (codes "q")).0 e))
 at_q word words more count vars done begun next s false e read behind last =
     at_first word words more Knf count vars done begun next s (literal_of word) refl read behind last
 
 at_k : (word : List ℕ) (words : List (List ℕ)) (more : IsSpelled words) (count vars : ℕ) (done : List Bounded) (begun : Bounded) (next s : Reading) (t : Bool)
     → bytes_eq word (codes "k") ≡ t
     → (if t then begin (reading Knf count vars done Between begun) Bound nothing
-        else (if bytes_eq word (codes "q") then begin (reading Knf count vars done Between begun) Guard nothing else first_word (reading Knf count vars done Between begun) word (literal_of word))) ≡ Ok next
+    else (if bytes_eq word (codes "q") then begin (reading Knf count vars done Between begun) Guard nothing else first_word (reading Knf count vars done Between begun) word (literal_of word))) ≡ Ok next
     → after_words next words ≡ Ok s → s.place ≡ Between
     → Found Knf count vars done Between begun (word ∷ words) s
 at_k word words more count vars done begun next s true e read behind last =
     let u = unless (length done == count) extra_constraint (Ok (reading Knf count vars done Bound nothing)) next read in
     goes_on Knf count vars done Between Bound begun nothing word words s
-        (more Knf count vars done Bound nothing s (good_nothing vars Bound (λ e. cc)) (at_next _ next s words u.1 behind) last)
-        (k_begins begun word words ((bytes_eq-Decides word (codes "k")).0 e))
+    (more Knf count vars done Bound nothing s (good_nothing vars Bound (λ e. cc)) (at_next _ next s words u.1 behind) last)
+    (k_begins begun word words ((bytes_eq-Decides word (codes "k")).0 e))
 at_k word words more count vars done begun next s false e read behind last =
     at_q word words more count vars done begun next s (bytes_eq word (codes "q")) refl read behind last
 

@@ -1,14 +1,13 @@
 -- What is kept of a klause where a literal joins it.
-use Rattle.std.proofs.Common.{◌≡◌, ℕ, ◌==◌, Bool, true, false, ◌||◌, if◌then◌else◌, cond, not, List, [], ◌∷◌, ◌++◌, Option, Some, None, refl, sym, ap, subst, ◌∙◌, append_assoc, arith}
+use Rattle.std.proofs.Common.{◌≡◌, ℕ, ◌==◌, Bool, true, false, ◌||◌, cond, not, List, [], ◌∷◌, ◌++◌, Option, refl, sym, ap, subst, ◌∙◌, append_assoc, arith}
 use Rattle.std.proofs.lemmas.List.Folds.{list_any-append}
-use Rattle.std.specs.Prelude.{IfSome, option_to_list, nat_eq}
-use Rattle.std.specs.List.{list_any, AllByRecursion}
+use Rattle.std.specs.Prelude.{option_to_list, nat_eq}
 use Rattle.kn_logic.specs.Literals.{Literal, IsKnown, AreKnown, AreDifferent, names}
-use Rattle.kn_logic.specs.Constraints.{Bounded, IsWithin, is_clause, named}
+use Rattle.kn_logic.specs.Constraints.{Bounded, named}
 use Rattle.kn_format.specs.declared.place.Place.{Place}
-use Rattle.kn_format.specs.declared.place.Place.TheVariants.{Clause, Klause}
+use Rattle.kn_format.specs.declared.place.Place.TheVariants.{Klause}
 use Rattle.kn_format.specs.Faults.{with_literal}
-use Rattle.kn_format.specs.Reading.{is_marked, Keeps}
+use Rattle.kn_format.specs.Reading.{Keeps}
 
 pub known_append : (vars : ℕ) (xs ys : List Literal) → AreKnown vars xs → AreKnown vars ys → AreKnown vars (xs ++ ys)
 known_append vars [] ys first behind = behind
@@ -34,9 +33,10 @@ or_right true c e = absurd cc
 pub different_more : (xs : List Literal) (l : Literal) → AreDifferent xs → names xs l.variable ≡ false → AreDifferent (xs ++ l ∷ [])
 different_more [] l different apart = (refl, tt)
 different_more (x ∷ xs) l different apart =
-    let here : (l.variable == x.variable) ≡ false = same_apart x l (or_left (x.variable == l.variable) (names xs l.variable) apart) in
-    (names_append xs (l ∷ []) x.variable ∙ or_false (names xs x.variable) (names (l ∷ []) x.variable) different.0 (or_false (l.variable == x.variable) false here refl),
-     different_more xs l different.1 (or_right (x.variable == l.variable) (names xs l.variable) apart))
+    let here : (l.variable == x.variable) ≡ false = same_apart x l (or_left (x.variable == l.variable) (names xs l.variable) apart) in (
+      names_append xs (l ∷ []) x.variable ∙ or_false (names xs x.variable) (names (l ∷ []) x.variable) different.0 (or_false (l.variable == x.variable) false here refl),
+      different_more xs l different.1 (or_right (x.variable == l.variable) (names xs l.variable) apart),
+    )
 
 pub named_more : (c : Bounded) (l : Literal) → named (with_literal c l) ≡ named c ++ l ∷ []
 named_more c l = sym (append_assoc (option_to_list c.guard) c.lits (l ∷ []))
@@ -57,8 +57,8 @@ keeps_literal vars c l old new kept known apart joined = record {
   clause = λ e. absurd cc;
   different = λ e. rw named_more (different_more (named c) l (kept.different refl) apart);
   seen = λ e v.
-    joined v ∙ ap (cond (nat_eq l.variable v) true) (kept.seen refl v) ∙ seen_more (nat_eq l.variable v) (names (named c) v)
-    ∙ sym (names_append (named c) (l ∷ []) v) ∙ ap (λ xs. names xs v) (sym (named_more c l));
+      joined v ∙ ap (cond (nat_eq l.variable v) true) (kept.seen refl v) ∙ seen_more (nat_eq l.variable v) (names (named c) v)
+      ∙ sym (names_append (named c) (l ∷ []) v) ∙ ap (λ xs. names xs v) (sym (named_more c l));
 }
 
 -- one is new where the set says so
@@ -73,9 +73,9 @@ pub keeps_added : (vars : ℕ) (place : Place) (guard : Option Literal) (bound :
 keeps_added vars place guard bound lits more l n old new at kept known var apart joined seen =
     let here : Keeps vars Klause (begun_of guard bound lits) old = subst (λ (p : Place). Keeps vars p (begun_of guard bound lits) old) at kept in
     let there : Keeps vars Klause (begun_of guard bound (lits ++ l ∷ [])) new =
-        keeps_literal vars (begun_of guard bound lits) l old new here known
-            (sym (here.seen refl l.variable) ∙ ap old (sym var) ∙ apart)
-            (λ v. seen v ∙ ap (λ m. cond (nat_eq m v) true (old v)) var) in
+    keeps_literal vars (begun_of guard bound lits) l old new here known
+    (sym (here.seen refl l.variable) ∙ ap old (sym var) ∙ apart)
+    (λ v. seen v ∙ ap (λ m. cond (nat_eq m v) true (old v)) var) in
     let list : Keeps vars Klause (begun_of guard bound more) new =
-        subst (λ (ls : List Literal). Keeps vars Klause (begun_of guard bound ls) new) (sym joined) there in
+    subst (λ (ls : List Literal). Keeps vars Klause (begun_of guard bound ls) new) (sym joined) there in
     subst (λ (p : Place). Keeps vars p (begun_of guard bound more) new) (sym at) list

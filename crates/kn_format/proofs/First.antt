@@ -1,5 +1,5 @@
 -- What is refused has its first fault there.
-use Rattle.std.proofs.Common.{◌≡◌, ℕ, Bool, true, false, if◌then◌else◌, List, [], ◌∷◌, ◌++◌, length, Ok, Err, refl, sym, ap, subst, ◌∙◌, append_assoc, inl, inr, ◌⊎◌}
+use Rattle.std.proofs.Common.{◌≡◌, ℕ, Bool, true, false, if◌then◌else◌, List, [], ◌∷◌, ◌++◌, length, Ok, Err, refl, sym, ap, ◌∙◌, append_assoc, inl, inr, ◌⊎◌}
 use Rattle.std.specs.Prelude.{Result}
 use Rattle.kn_logic.specs.Formulas.{Problem}
 use Rattle.kn_text.specs.Lines.{Line, lines_of, content_of}
@@ -8,7 +8,7 @@ use Rattle.kn_format.specs.declared.error.ReadError.{ReadError}
 use Rattle.kn_format.specs.declared.error.ReadError.TheVariants.{Refused, Memory}
 use Rattle.kn_format.specs.declared.header.Header.{Header}
 use Rattle.kn_format.specs.Grammar.{words_in, Spells}
-use Rattle.kn_format.specs.Faults.{Reading, start, after, after_words, ◌>>=◌, is_done, is_percent, ends, at_end, refusal, header_of, IsBadWord, IsBadEnd, IsFaultIn, IsFirstFault}
+use Rattle.kn_format.specs.Faults.{Reading, start, after, after_words, ◌>>=◌, ends, at_end, refusal, header_of, IsBadWord, IsBadEnd, IsFaultIn, IsFirstFault}
 use Rattle.kn_format.specs.Reading.{go_on, after_lines, behind_header, read_lines, read_of, Gives, IfRefused, RefusesAs}
 use Rattle.kn_format.proofs.Back.{is_ok, first_step}
 use Rattle.kn_format.proofs.Whole.{after_both, is_no_tail, ends_has_cause, spelled_is_read}
@@ -51,8 +51,19 @@ more_words line before front r next here e read =
 
 bad_behind : (last : ℕ) (r next : Reading) (line : Line) (lines : List Line) (fault : Refusal) → after_words r line.words ≡ Ok next → IsBad last next lines fault → IsBad last r (line ∷ lines) fault
 bad_behind last r next line lines fault e (inl w) = inl (record {
-  before = line ∷ w.before; line = w.line; behind = w.behind; front = w.front; word = w.word; back = w.back; here = w.here;
-  parts = ap (λ ls. line ∷ ls) w.parts; words = w.words; read = more_words line w.before w.front r next w.here e w.read; body = w.body; cause = w.cause; number = w.number;
+  before = line ∷ w.before;
+  line = w.line;
+  behind = w.behind;
+  front = w.front;
+  word = w.word;
+  back = w.back;
+  here = w.here;
+  parts = ap (λ ls. line ∷ ls) w.parts;
+  words = w.words;
+  read = more_words line w.before w.front r next w.here e w.read;
+  body = w.body;
+  cause = w.cause;
+  number = w.number;
 })
 bad_behind last r next line lines fault e (inr w) = inr (record {
   here = w.here;
@@ -67,9 +78,19 @@ bad_line last r line lines fault (Err cause) e body bad more =
     let b : BadAt r line.words cause = bad_words line.words r cause e in
     let is : refusal line.number cause ≡ fault = cc in
     inl (record {
-      before = []; line = line; behind = lines; front = b.front; word = b.word; back = b.back; here = b.here;
-      parts = refl; words = b.parts; read = b.read; body = first_of_line b.front r b.here line.words b.read body;
-      cause = b.bad ∙ ap (λ (f : Refusal). Err f.why) is; number = sym (ap (λ (f : Refusal). f.line) is);
+      before = [];
+      line = line;
+      behind = lines;
+      front = b.front;
+      word = b.word;
+      back = b.back;
+      here = b.here;
+      parts = refl;
+      words = b.parts;
+      read = b.read;
+      body = first_of_line b.front r b.here line.words b.read body;
+      cause = b.bad ∙ ap (λ (f : Refusal). Err f.why) is;
+      number = sym (ap (λ (f : Refusal). f.line) is);
     })
 
 bad_lines-at : (last : ℕ) (r : Reading) (line : Line) (lines : List Line) (fault : Refusal) (t : Bool) → ends r line.words ≡ t
@@ -119,12 +140,12 @@ word_refused : (last : ℕ) (before behind : List Line) (line : Line) (front bac
     → after_lines last r (before ++ line ∷ behind) ≡ Err fault
 word_refused last [] behind line front back word r here fault words read body bad number =
     let tail : ends r line.words ≡ false =
-        ap (ends r) words ∙ goes_on-at front back word r here (ends r (front ++ word ∷ back)) read (λ e. ap (ends here) (sym words) ∙ body e) refl in
+    ap (ends r) words ∙ goes_on-at front back word r here (ends r (front ++ word ∷ back)) read (λ e. ap (ends here) (sym words) ∙ body e) refl in
     let cause : after_words r line.words ≡ Err fault.why = ap (after_words r) words ∙ bad_word_stays front back word r here fault.why read bad in
     rw (tail, cause) (ap (λ n. Err (refusal n fault.why)) (sym number))
 word_refused last (first ∷ before) behind line front back word r here fault words read body bad number =
     let f = first_step (after_words r first.words) (λ n. after_words n (words_in before ++ front)) here
-        (sym (after_both first.words (words_in before ++ front) r) ∙ ap (after_words r) (sym (append_assoc first.words (words_in before) front)) ∙ read) in
+    (sym (after_both first.words (words_in before ++ front) r) ∙ ap (after_words r) (sym (append_assoc first.words (words_in before) front)) ∙ read) in
     let ok : after_words r first.words ≡ Ok f.0 = f.1 in
     let tail : ends r first.words ≡ false = is_no_tail r f.0 first.words (ends r first.words) refl ok in
     rw (tail, ok) (word_refused last before behind line front back word f.0 here fault words f.2 body bad number)

@@ -1,18 +1,17 @@
 -- A spelled formula is read.
-use Rattle.std.proofs.Common.{◌≡◌, ℕ, suc, ◌+◌, ◌≤◌, ◌==◌, Bool, true, false, List, [], ◌∷◌, ◌++◌, length, Option, Some, None, Ok, Err, refl, sym, ap, subst, ◌∙◌, append_assoc, length-append, arith, inl, inr, ◌⊎◌}
+use Rattle.std.proofs.Common.{◌≡◌, ℕ, ◌+◌, ◌==◌, false, List, [], ◌∷◌, ◌++◌, length, Option, Some, None, Ok, refl, sym, ap, subst, ◌∙◌, append_assoc, length-append, arith, inl, inr}
 use Rattle.std.proofs.lemmas.List.{append-nil}
 use Rattle.std.proofs.lemmas.Bool.Decides.{nat_tests}
-use Rattle.std.specs.Prelude.{Result, IsSome, IfSome, codes, option_to_list}
+use Rattle.std.specs.Prelude.{Result, IsSome, IfSome, option_to_list}
 use Rattle.std.specs.List.{AllByRecursion}
 use Rattle.kn_logic.specs.Literals.{Literal, IsKnown, AreKnown, AreDifferent, names}
-use Rattle.kn_logic.specs.Constraints.{Bounded, clause, klause, guarded_klause, named, IsWithin, Fits}
-use Rattle.kn_text.specs.Numbers.{number_of, literal_of, is_end}
+use Rattle.kn_logic.specs.Constraints.{Bounded, clause, klause, guarded_klause, named, Fits}
 use Rattle.kn_text.specs.Lists.{LiteralsThen}
 use Rattle.kn_format.specs.declared.format.Format.{Format}
 use Rattle.kn_format.specs.declared.format.Format.TheVariants.{Cnf, Knf}
 use Rattle.kn_format.specs.declared.place.Place.{Place}
 use Rattle.kn_format.specs.declared.place.Place.TheVariants.{Between, Guard, Bound, Clause, Klause}
-use Rattle.kn_format.specs.Grammar.{highest_bound, ClauseThen, BoundThen, KlauseThen, GuardThen, MarkedThen, ConstraintThen, SpellConstraints}
+use Rattle.kn_format.specs.Grammar.{BoundThen, GuardThen, MarkedThen, ConstraintThen, SpellConstraints}
 use Rattle.kn_format.specs.Faults.{Reading, nothing, with_literal, with_bound, after, after_words}
 use Rattle.kn_format.proofs.Begun.{names_append, or_left, or_right, or_false}
 use Rattle.kn_format.proofs.Steps.{reading, step, between_literal, between_end, between_k, between_q, guard_literal, bound_number, clause_literal, clause_end, klause_literal, klause_end}
@@ -82,7 +81,7 @@ completed format count vars done c begun cs r word words e same rest fits n more
     let len : length (done ++ c ∷ []) + length cs ≡ count = rw length-append (omega arith) in
     let all : (done ++ c ∷ []) ++ cs ≡ done ++ begun ∷ cs = append_assoc done (c ∷ []) cs ∙ ap (λ d. done ++ d ∷ cs) same in
     subst (λ (ds : List Bounded). Reaches (after_words r (word ∷ words)) format count vars ds) all
-        (reaches format count vars ((done ++ c ∷ []) ++ cs) r _ word words e (more format count vars (done ++ c ∷ []) Between nothing cs rest fits len))
+    (reaches format count vars ((done ++ c ∷ []) ++ cs) r _ word words e (more format count vars (done ++ c ∷ []) Between nothing cs rest fits len))
 
 known_at : (vars : ℕ) (xs ys : List Literal) (l : Literal) → AreKnown vars (xs ++ l ∷ ys) → IsKnown vars l
 known_at vars [] ys l known = known.0
@@ -96,7 +95,7 @@ apart_at : (xs ys : List Literal) (l : Literal) → AreDifferent (xs ++ l ∷ ys
 apart_at [] ys l different = refl
 apart_at (x ∷ xs) ys l different =
     let here : (l.variable == x.variable) ≡ false =
-        or_left _ _ (or_right (names xs x.variable) _ (sym (names_append xs (l ∷ ys) x.variable) ∙ different.0)) in
+    or_left _ _ (or_right (names xs x.variable) _ (sym (names_append xs (l ∷ ys) x.variable) ∙ different.0)) in
     or_false (x.variable == l.variable) (names xs l.variable) (test_back l x here) (apart_at xs ys l different.1)
 
 pub joined_literal : (begun : Bounded) (l : Literal) (lits : List Literal) (c : Bounded) → c ≡ joined begun (l ∷ lits) → c ≡ joined (with_literal begun l) lits
@@ -111,40 +110,40 @@ known_in vars begun c l lits e fits = known_at vars begun.lits lits l (subst (λ
 apart_in : (begun c : Bounded) (l : Literal) (lits : List Literal) → c ≡ joined begun (l ∷ lits) → AreDifferent (named c) → names (named begun) l.variable ≡ false
 apart_in begun c l lits e different =
     apart_at (named begun) lits l
-        (subst (λ (ls : List Literal). AreDifferent ls) (ap named e ∙ sym (append_assoc (option_to_list begun.guard) begun.lits (l ∷ lits))) different)
+    (subst (λ (ls : List Literal). AreDifferent ls) (ap named e ∙ sym (append_assoc (option_to_list begun.guard) begun.lits (l ∷ lits))) different)
 
 in_clause : (word : List ℕ) (words : List (List ℕ)) (more : IsRead words) (format : Format) (count vars : ℕ) (done : List Bounded) (begun c : Bounded) (cs : List Bounded) (lits : List Literal)
     → c ≡ joined begun lits → LiteralsThen (Then format cs) (word ∷ words) lits → Fits vars c → AllByRecursion (Fits vars) cs → length done + length (c ∷ cs) ≡ count
     → Reaches (after_words (reading format count vars done Clause begun) (word ∷ words)) format count vars (done ++ c ∷ cs)
 in_clause word words more format count vars done begun c cs [] whole spelled here fits n =
     completed format count vars done begun c cs (reading format count vars done Clause begun) word words
-        (clause_end format count vars done begun word spelled.0) (joined_nothing begun c whole) spelled.1 fits n more
+    (clause_end format count vars done begun word spelled.0) (joined_nothing begun c whole) spelled.1 fits n more
 in_clause word words more format count vars done begun c cs (l ∷ lits) whole spelled here fits n =
     reaches format count vars (done ++ c ∷ cs) (reading format count vars done Clause begun) (reading format count vars done Clause (with_literal begun l)) word words
-        (clause_literal format count vars done begun word l spelled.0 (known_in vars begun c l lits whole here).1)
-        (more format count vars done Clause (with_literal begun l) (c ∷ cs)
-            (record { lits = lits; whole = joined_literal begun l lits c whole; spelled = spelled.1 }) (here, fits) n)
+    (clause_literal format count vars done begun word l spelled.0 (known_in vars begun c l lits whole here).1)
+    (more format count vars done Clause (with_literal begun l) (c ∷ cs)
+    (record { lits = lits; whole = joined_literal begun l lits c whole; spelled = spelled.1 }) (here, fits) n)
 
 in_klause : (word : List ℕ) (words : List (List ℕ)) (more : IsRead words) (format : Format) (count vars : ℕ) (done : List Bounded) (begun c : Bounded) (cs : List Bounded) (lits : List Literal)
     → c ≡ joined begun lits → LiteralsThen (Then format cs) (word ∷ words) lits → AreDifferent (named c) → Fits vars c → AllByRecursion (Fits vars) cs → length done + length (c ∷ cs) ≡ count
     → Reaches (after_words (reading format count vars done Klause begun) (word ∷ words)) format count vars (done ++ c ∷ cs)
 in_klause word words more format count vars done begun c cs [] whole spelled different here fits n =
     completed format count vars done begun c cs (reading format count vars done Klause begun) word words
-        (klause_end format count vars done begun word spelled.0) (joined_nothing begun c whole) spelled.1 fits n more
+    (klause_end format count vars done begun word spelled.0) (joined_nothing begun c whole) spelled.1 fits n more
 in_klause word words more format count vars done begun c cs (l ∷ lits) whole spelled different here fits n =
     reaches format count vars (done ++ c ∷ cs) (reading format count vars done Klause begun) (reading format count vars done Klause (with_literal begun l)) word words
-        (klause_literal format count vars done begun word l spelled.0 (known_in vars begun c l lits whole here).1 (apart_in begun c l lits whole different))
-        (more format count vars done Klause (with_literal begun l) (c ∷ cs)
-            (record { lits = lits; whole = joined_literal begun l lits c whole; spelled = spelled.1; different = different }) (here, fits) n)
+    (klause_literal format count vars done begun word l spelled.0 (known_in vars begun c l lits whole here).1 (apart_in begun c l lits whole different))
+    (more format count vars done Klause (with_literal begun l) (c ∷ cs)
+    (record { lits = lits; whole = joined_literal begun l lits c whole; spelled = spelled.1; different = different }) (here, fits) n)
 
 at_bound : (word : List ℕ) (words : List (List ℕ)) (more : IsRead words) (format : Format) (count vars : ℕ) (done : List Bounded) (begun c : Bounded) (cs : List Bounded)
     → AtBound format begun (word ∷ words) c cs → Fits vars c → AllByRecursion (Fits vars) cs → length done + length (c ∷ cs) ≡ count
     → Reaches (after_words (reading format count vars done Bound begun) (word ∷ words)) format count vars (done ++ c ∷ cs)
 at_bound word words more format count vars done begun c cs rest here fits n =
     reaches format count vars (done ++ c ∷ cs) (reading format count vars done Bound begun) (reading format count vars done Klause (with_bound begun rest.bound)) word words
-        (bound_number format count vars done begun word rest.bound rest.spelled.0 rest.spelled.1)
-        (more format count vars done Klause (with_bound begun rest.bound) (c ∷ cs)
-            (record { lits = rest.lits; whole = rest.whole; spelled = rest.spelled.2; different = rest.different }) (here, fits) n)
+    (bound_number format count vars done begun word rest.bound rest.spelled.0 rest.spelled.1)
+    (more format count vars done Klause (with_bound begun rest.bound) (c ∷ cs)
+    (record { lits = rest.lits; whole = rest.whole; spelled = rest.spelled.2; different = rest.different }) (here, fits) n)
 
 -- a bound and literals do not depend on the guard
 bound_then : (format : Format) (cs : List Bounded) (words : List (List ℕ)) (c : Bounded) → BoundThen (Then format cs) words c → BoundThen (Then format cs) words (klause c.bound c.lits)
@@ -165,9 +164,9 @@ at_guard word words more format count vars done begun c cs None e rest here fits
 at_guard word words more format count vars done begun c cs (Some l) e rest here fits n =
     let known : IsKnown vars l = subst (λ (g : Option Literal). IfSome g (IsKnown vars)) e here.within.guard in
     reaches format count vars (done ++ c ∷ cs) (reading format count vars done Guard begun) (reading format count vars done Bound (guarded_klause l 0 [])) word words
-        (guard_literal format count vars done begun word l (rest.spelled.1 ∙ e) known.1)
-        (more format count vars done Bound (guarded_klause l 0 []) (c ∷ cs)
-            (record { bound = c.bound; lits = c.lits; whole = guarded (Some l) l c e refl; spelled = bound_then format cs words c rest.spelled.2; different = rest.different }) (here, fits) n)
+    (guard_literal format count vars done begun word l (rest.spelled.1 ∙ e) known.1)
+    (more format count vars done Bound (guarded_klause l 0 []) (c ∷ cs)
+    (record { bound = c.bound; lits = c.lits; whole = guarded (Some l) l c e refl; spelled = bound_then format cs words c rest.spelled.2; different = rest.different }) (here, fits) n)
 
 -- where a constraint begins
 begins_clause : (word : List ℕ) (words : List (List ℕ)) (more : IsRead words) (format : Format) (count vars : ℕ) (done : List Bounded) (begun c : Bounded) (cs : List Bounded) (lits : List Literal)
@@ -175,12 +174,12 @@ begins_clause : (word : List ℕ) (words : List (List ℕ)) (more : IsRead words
     → Reaches (after_words (reading format count vars done Between begun) (word ∷ words)) format count vars (done ++ c ∷ cs)
 begins_clause word words more format count vars done begun c cs [] whole spelled here fits n =
     completed format count vars done (clause []) c cs (reading format count vars done Between begun) word words
-        (between_end format count vars done begun word spelled.0 (has_room done c cs count n)) (sym whole) spelled.1 fits n more
+    (between_end format count vars done begun word spelled.0 (has_room done c cs count n)) (sym whole) spelled.1 fits n more
 begins_clause word words more format count vars done begun c cs (l ∷ lits) whole spelled here fits n =
     reaches format count vars (done ++ c ∷ cs) (reading format count vars done Between begun) (reading format count vars done Clause (clause (l ∷ []))) word words
-        (between_literal format count vars done begun word l spelled.0 (known_in vars (clause []) c l lits whole here).1 (has_room done c cs count n))
-        (more format count vars done Clause (clause (l ∷ [])) (c ∷ cs)
-            (record { lits = lits; whole = whole; spelled = spelled.1 }) (here, fits) n)
+    (between_literal format count vars done begun word l spelled.0 (known_in vars (clause []) c l lits whole here).1 (has_room done c cs count n))
+    (more format count vars done Clause (clause (l ∷ [])) (c ∷ cs)
+    (record { lits = lits; whole = whole; spelled = spelled.1 }) (here, fits) n)
 
 begins_marked : (word : List ℕ) (words : List (List ℕ)) (more : IsRead words) (count vars : ℕ) (done : List Bounded) (begun c : Bounded) (cs : List Bounded)
     → MarkedThen (Then Knf cs) (word ∷ words) c → Fits vars c → AllByRecursion (Fits vars) cs → length done + length (c ∷ cs) ≡ count
@@ -188,15 +187,15 @@ begins_marked : (word : List ℕ) (words : List (List ℕ)) (more : IsRead words
 begins_marked word words more count vars done begun c cs rest here fits n =
     let room : (length done == count) ≡ false = has_room done c cs count n in
     elim rest.0 [
-      inl k ↦
-        reaches Knf count vars (done ++ c ∷ cs) (reading Knf count vars done Between begun) (reading Knf count vars done Bound nothing) word words
-            (between_k count vars done begun word k.0 room)
-            (more Knf count vars done Bound nothing (c ∷ cs)
-                (record { bound = c.bound; lits = c.lits; whole = k.1.0; spelled = bound_then Knf cs words c k.1.1; different = rest.1 }) (here, fits) n)
-    | inr q ↦
-        reaches Knf count vars (done ++ c ∷ cs) (reading Knf count vars done Between begun) (reading Knf count vars done Guard nothing) word words
-            (between_q count vars done begun word q.0 room)
-            (more Knf count vars done Guard nothing (c ∷ cs) (record { spelled = q.1; different = rest.1 }) (here, fits) n)
+      | inl k ↦
+          reaches Knf count vars (done ++ c ∷ cs) (reading Knf count vars done Between begun) (reading Knf count vars done Bound nothing) word words
+          (between_k count vars done begun word k.0 room)
+          (more Knf count vars done Bound nothing (c ∷ cs)
+          (record { bound = c.bound; lits = c.lits; whole = k.1.0; spelled = bound_then Knf cs words c k.1.1; different = rest.1 }) (here, fits) n)
+      | inr q ↦
+          reaches Knf count vars (done ++ c ∷ cs) (reading Knf count vars done Between begun) (reading Knf count vars done Guard nothing) word words
+          (between_q count vars done begun word q.0 room)
+          (more Knf count vars done Guard nothing (c ∷ cs) (record { spelled = q.1; different = rest.1 }) (here, fits) n)
     ]
 
 begins : (word : List ℕ) (words : List (List ℕ)) (more : IsRead words) (format : Format) (count vars : ℕ) (done : List Bounded) (begun c : Bounded) (cs : List Bounded)
@@ -205,8 +204,8 @@ begins : (word : List ℕ) (words : List (List ℕ)) (more : IsRead words) (form
 begins word words more Cnf count vars done begun c cs rest here fits n = begins_clause word words more Cnf count vars done begun c cs c.lits rest.0 rest.1 here fits n
 begins word words more Knf count vars done begun c cs rest here fits n =
     elim rest [
-      inl clause ↦ begins_clause word words more Knf count vars done begun c cs c.lits clause.0 clause.1 here fits n
-    | inr marked ↦ begins_marked word words more count vars done begun c cs marked here fits n
+      | inl clause ↦ begins_clause word words more Knf count vars done begun c cs c.lits clause.0 clause.1 here fits n
+      | inr marked ↦ begins_marked word words more count vars done begun c cs marked here fits n
     ]
 
 no_words : (format : Format) (c : Bounded) (cs : List Bounded) → SpellConstraints format [] (c ∷ cs) → ⊥

@@ -1,13 +1,11 @@
 -- What a word makes of a reading, where it is a word that may stand there.
-use Rattle.std.proofs.Common.{◌≡◌, ℕ, suc, ◌+◌, ◌≤◌, ◌<◌, ◌==◌, nat_lt, Bool, true, false, if◌then◌else◌, List, [], ◌∷◌, ◌++◌, length, Option, Some, None, Ok, Err, refl, sym, ap, ◌∙◌, arith}
-use Rattle.std.proofs.lemmas.Bool.{le-ltb, ltb-false}
-use Rattle.std.proofs.lemmas.Bool.Decides.{nat_tests}
+use Rattle.std.proofs.Common.{◌≡◌, ℕ, ◌≤◌, ◌==◌, nat_lt, Bool, true, false, List, [], ◌∷◌, ◌++◌, length, Option, Some, None, Ok, refl, ap}
+use Rattle.std.proofs.lemmas.Bool.{le-ltb}
 use Rattle.std.proofs.lemmas.Slice.Eq.{bytes_eq-Decides}
-use Rattle.std.specs.Prelude.{Result, codes}
+use Rattle.std.specs.Prelude.{codes}
 use Rattle.std.specs.Str.{bytes_eq}
 use Rattle.kn_logic.specs.Literals.{Literal, names}
 use Rattle.kn_logic.specs.Constraints.{Bounded, clause, guarded_klause, named}
-use Rattle.kn_logic.specs.Formulas.{Problem}
 use Rattle.kn_text.specs.Numbers.{number_of, literal_of, is_end}
 use Rattle.kn_text.proofs.Spelled.{literal_is_no_end}
 use Rattle.kn_format.specs.declared.format.Format.{Format}
@@ -15,7 +13,7 @@ use Rattle.kn_format.specs.declared.format.Format.TheVariants.{Cnf, Knf}
 use Rattle.kn_format.specs.declared.place.Place.{Place}
 use Rattle.kn_format.specs.declared.place.Place.TheVariants.{Between, Guard, Bound, Clause, Klause}
 use Rattle.kn_format.specs.Grammar.{highest_bound}
-use Rattle.kn_format.specs.Faults.{Reading, nothing, is_full, is_above, begin, complete, with_literal, with_bound, marks, first_literal, empty_clause, first_word, between, guard, bound, end, within_clause, within_klause, at, after, ◌>>=◌, after_words}
+use Rattle.kn_format.specs.Faults.{Reading, nothing, with_literal, with_bound, marks, after, ◌>>=◌, after_words}
 
 abbrev pub reading : Format → ℕ → ℕ → List Bounded → Place → Bounded → Reading
 reading format count vars done place begun = record { format = format; count = count; formula = record { vars = vars; constraints = done }; place = place; begun = begun }

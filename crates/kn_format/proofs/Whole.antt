@@ -1,15 +1,13 @@
 -- A text is read as a formula exactly where it spells it.
-use Rattle.std.proofs.Common.{◌≡◌, ℕ, ◌+◌, ◌≤◌, ◌==◌, nat_lt, Bool, true, false, ◌&&◌, if◌then◌else◌, List, [], ◌∷◌, ◌++◌, length, Option, Some, None, Ok, Err, refl, sym, ap, subst, ◌∙◌, arith}
+use Rattle.std.proofs.Common.{◌≡◌, ℕ, ◌≤◌, ◌==◌, nat_lt, Bool, true, false, ◌&&◌, if◌then◌else◌, List, [], ◌∷◌, ◌++◌, length, Option, Some, None, Ok, Err, refl, sym, ap, subst, ◌∙◌, arith}
 use Rattle.std.proofs.lemmas.Bool.{ltb-false, le-ltb, eqb-true, eq-eqb}
 use Rattle.std.proofs.lemmas.Slice.Eq.{bytes_eq-Decides}
 use Rattle.std.specs.Prelude.{Result, codes, IfOk}
 use Rattle.std.specs.Str.{bytes_eq}
-use Rattle.std.specs.List.{AllByRecursion, flat_map}
-use Rattle.kn_logic.specs.Constraints.{Bounded, Fits}
-use Rattle.kn_logic.specs.Formulas.{Problem, IsFormula}
+use Rattle.kn_logic.specs.Constraints.{Bounded}
+use Rattle.kn_logic.specs.Formulas.{Problem}
 use Rattle.kn_text.specs.Lines.{Line, lines_of, content_of}
 use Rattle.kn_text.specs.Numbers.{number_of}
-use Rattle.kn_format.specs.declared.error.Refusal.{Refusal}
 use Rattle.kn_format.specs.declared.error.ReadError.{ReadError}
 use Rattle.kn_format.specs.declared.error.ReadError.TheVariants.{Refused, Memory}
 use Rattle.kn_format.specs.declared.format.Format.{Format}
@@ -17,12 +15,12 @@ use Rattle.kn_format.specs.declared.format.Format.TheVariants.{Cnf, Knf}
 use Rattle.kn_format.specs.declared.header.Header.{Header}
 use Rattle.kn_format.specs.declared.place.Place.{Place}
 use Rattle.kn_format.specs.declared.place.Place.TheVariants.{Between, Guard, Bound, Clause, Klause}
-use Rattle.kn_format.specs.Grammar.{most_variables, most_constraints, format_word, SpellsProblem, SpellConstraints, BeginsTail, IsTail, words_in, SpellsBy, Spells, SpellsNone}
-use Rattle.kn_format.specs.Faults.{Reading, nothing, start, is_full, after, after_words, ◌>>=◌, is_percent, is_between, is_done, ends, at_end, refusal, bad_token, no_header, bad_header, too_many_variables, too_many_constraints, missing_constraint, unended, within_limits, format_of, header_from, header_behind, header_of}
+use Rattle.kn_format.specs.Grammar.{most_variables, most_constraints, format_word, SpellsProblem, BeginsTail, IsTail, words_in, SpellsBy, Spells, SpellsNone}
+use Rattle.kn_format.specs.Faults.{Reading, nothing, start, is_full, after, after_words, ◌>>=◌, is_percent, is_between, is_done, ends, at_end, refusal, bad_token, no_header, too_many_variables, too_many_constraints, missing_constraint, unended, within_limits, format_of, header_from, header_behind, header_of}
 use Rattle.kn_format.specs.Reading.{go_on, after_lines, behind_header, read_lines, read_of, Gives, ReadsAs, IfRefused}
 use Rattle.kn_format.proofs.Steps.{reading, mark_is}
 use Rattle.kn_format.proofs.Spelled.{is_read}
-use Rattle.kn_format.proofs.Back.{unless, when, okay, is_ok, first_step, constraints_are_spelled}
+use Rattle.kn_format.proofs.Back.{unless, when, is_ok, first_step, constraints_are_spelled}
 
 -- the problem line
 format_is_named : (name : List ℕ) (format : Format) → name ≡ format_word format → format_of name ≡ Some format
@@ -76,7 +74,7 @@ numbers_were_spelled : (p name first second : List ℕ) (h : Header) (format : O
 numbers_were_spelled p name first second h (Some format) (Some vars) (Some count) begins f v c e =
     let kept = limits_kept (record { format = format; vars = vars; count = count }) h e in
     subst (λ (g : Header). IsHeader (p ∷ name ∷ first ∷ second ∷ []) g) kept.0
-        (record { spelled = (begins, format_was_named name format f, v, c); vars = kept.1; count = kept.2 })
+    (record { spelled = (begins, format_was_named name format f, v, c); vars = kept.1; count = kept.2 })
 numbers_were_spelled p name first second h None vars count begins f v c e = absurd cc
 numbers_were_spelled p name first second h (Some format) None count begins f v c e = absurd cc
 numbers_were_spelled p name first second h (Some format) (Some vars) None begins f v c e = absurd cc
@@ -238,16 +236,19 @@ spelled_by f h problem lines header w =
     let d = both_hold (is_between w.last.place) (is_full w.last) w.done in
     let c = constraints_are_spelled h.format h.count h.vars (words_in w.body) w.last w.words (at_between w.last.place d.0) in
     let whole : f ≡ record { vars = h.vars; constraints = c.0 } = sym w.formula ∙ c.2 in
-    let count : length c.0 ≡ h.count = ap (λ (g : Problem). length g.constraints) (sym c.2) ∙ eqb-true _ _ d.1 ∙ c.1 in
-    (w.body, w.tail, subst (λ (g : Problem). SpellsBy (problem ∷ lines) h.format problem w.body w.tail g) (sym whole) (record {
-      parts = ap (λ ls. problem ∷ ls) w.parts;
-      header = subst (λ (n : ℕ). SpellsProblem problem.words h.format h.vars n) (sym count) header.spelled;
-      constraints = c.3;
-      ending = w.ending;
-      vars = header.vars;
-      count = subst (λ (n : ℕ). n ≤ most_constraints) (sym count) header.count;
-      formula = c.4;
-    }))
+    let count : length c.0 ≡ h.count = ap (λ (g : Problem). length g.constraints) (sym c.2) ∙ eqb-true _ _ d.1 ∙ c.1 in (
+      w.body,
+      w.tail,
+      subst (λ (g : Problem). SpellsBy (problem ∷ lines) h.format problem w.body w.tail g) (sym whole) (record {
+        parts = ap (λ ls. problem ∷ ls) w.parts;
+        header = subst (λ (n : ℕ). SpellsProblem problem.words h.format h.vars n) (sym count) header.spelled;
+        constraints = c.3;
+        ending = w.ending;
+        vars = header.vars;
+        count = subst (λ (n : ℕ). n ≤ most_constraints) (sym count) header.count;
+        formula = c.4;
+      }),
+    )
 
 header_was_read : (last number : ℕ) (f : Problem) (problem : Line) (lines : List Line) (x : Result Header ℕ) → header_of problem.words ≡ x → behind_header last number x lines ≡ Ok f
     → (format : Format) × (body : List Line) × (tail : List Line) × SpellsBy (problem ∷ lines) format problem body tail f

@@ -1,7 +1,7 @@
 -- How a text spells a formula: DIMACS CNF, and KNF, which has klauses too.
-use Rattle.std.specs.Prelude.{ℕ, ◌≡◌, ◌≤◌, ◌==◌, ◌⊎◌, ◌++◌, Bool, true, false, List, [], ◌∷◌, length, flat_map, Option, Some, None, IsSome, codes}
-use Rattle.kn_logic.specs.Literals.{Literal, AreDifferent}
-use Rattle.kn_logic.specs.Constraints.{Bounded, clause, klause, guarded_klause, named}
+use Rattle.std.specs.Prelude.{ℕ, ◌≡◌, ◌≤◌, ◌⊎◌, ◌++◌, List, [], ◌∷◌, length, flat_map, Some, IsSome, codes}
+use Rattle.kn_logic.specs.Literals.{AreDifferent}
+use Rattle.kn_logic.specs.Constraints.{Bounded, clause, klause, named}
 use Rattle.kn_logic.specs.Formulas.{Problem, IsFormula}
 use Rattle.kn_text.specs.Lines.{Line, content_of}
 use Rattle.kn_text.specs.Numbers.{number_of, literal_of}

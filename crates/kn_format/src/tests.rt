@@ -148,24 +148,38 @@ fn writes_what_is_read(rt: HostRuntime) {
     let klauses = b"p knf 4 4\n1 -2 0\nk 2 1 2 -3 0\nq -4 0 1 2 3 0\n0\n";
     assert_eq!(rt; again(alloc, klauses).as_slice(), klauses.as_slice());
     let clauses = b"c a file\np cnf 3  2\n1 -2\n3 0 -1 0\n%\n0\n";
-    assert_eq!(rt; again(alloc, clauses).as_slice(), b"p knf 3 2\n1 -2 3 0\n-1 0\n".as_slice());
+    assert_eq!(rt;
+        again(alloc, clauses).as_slice(),
+        b"p knf 3 2\n1 -2 3 0\n-1 0\n".as_slice()
+    );
     let unit = b"p knf 2 3\nk 01 2 1 0 q 1 1 0 k 0 0\n";
-    assert_eq!(rt; again(alloc, unit).as_slice(), b"p knf 2 3\n2 1 0\nq 1 1 0\nk 0 0\n".as_slice());
+    assert_eq!(rt;
+        again(alloc, unit).as_slice(),
+        b"p knf 2 3\n2 1 0\nq 1 1 0\nk 0 0\n".as_slice()
+    );
 }
 
 #[test]
 fn writes_clauses_and_models(rt: HostRuntime) -> Result<(), Fail> {
     let alloc = rt.alloc();
     let mut f = Formula::new(alloc, 2);
-    let lits = vec![in alloc; Lit::new(2, false), Lit::new(1, true)].ok().ok_or("memory")?;
+    let lits = vec![in alloc; Lit::new(2, false), Lit::new(1, true)]
+        .ok()
+        .ok_or("memory")?;
     f.push(Constraint::new(1, lits)).ok().ok_or("memory")?;
     let text = write_cnf(alloc, &f).ok().ok_or("memory")?;
     assert_eq!(rt; text.as_slice(), b"p cnf 2 1\n-2 1 0\n".as_slice());
     let mut m = Assignment::new(alloc, 10, true).ok().ok_or("memory")?;
     let text = write_model(alloc, &m).ok().ok_or("memory")?;
-    assert_eq!(rt; text.as_slice(), b"v 1 2 3 4 5 6 7 8 9 10\nv 0\n".as_slice());
+    assert_eq!(rt;
+        text.as_slice(),
+        b"v 1 2 3 4 5 6 7 8 9 10\nv 0\n".as_slice()
+    );
     m.set(3, false);
     let text = write_model(alloc, &m).ok().ok_or("memory")?;
-    assert_eq!(rt; text.as_slice(), b"v 1 2 -3 4 5 6 7 8 9 10\nv 0\n".as_slice());
+    assert_eq!(rt;
+        text.as_slice(),
+        b"v 1 2 -3 4 5 6 7 8 9 10\nv 0\n".as_slice()
+    );
     Ok(())
 }
