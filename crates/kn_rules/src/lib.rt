@@ -2,5 +2,7 @@
 #![tactic(auto)]
 
 mod given;
+mod laws;
 
 pub use given::{Given, Origin};
+pub use laws::proof_refutes;
