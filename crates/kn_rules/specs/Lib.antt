@@ -1,3 +1,4 @@
 pub mod States
 pub mod Steps
 pub mod Proofs
+pub mod Marks

@@ -3,6 +3,7 @@
 
 mod given;
 mod laws;
+mod trail;
 
 pub use given::{Given, Origin};
 pub use laws::proof_refutes;
