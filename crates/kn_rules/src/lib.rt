@@ -2,6 +2,8 @@
 #![tactic(auto)]
 
 mod given;
+mod hints;
+mod ids;
 mod laws;
 mod trail;
 
