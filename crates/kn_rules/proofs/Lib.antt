@@ -1,3 +1,6 @@
+pub mod Elements
 pub mod Truth
+pub mod Deleting
 pub mod Sound
 pub mod MarkLemmas
+pub mod Ready

@@ -18,6 +18,8 @@ use Rattle.kn_rules.specs.declared.given.Origin.TheVariants as origin
 use Rattle.kn_rules.specs.States.{ProofState, start, from_file, given_at, live_at}
 use Rattle.kn_rules.specs.Steps.{hinted, is_conflict, is_empty, with_clause, if_conflict, follow, without, deleted, with_given, step}
 use Rattle.kn_rules.specs.Proofs.{Runs, StepsThrough, IsProof}
+use Rattle.kn_rules.proofs.Deleting.{deleted-keep}
+use Rattle.kn_rules.proofs.Elements.{All-at, All-set, All-push}
 use Rattle.kn_rules.proofs.Truth.{AreTrue, GoesOn, true-negated, run-goes_on}
 
 -- what an id stands for holds, unless it is deleted
@@ -36,21 +38,6 @@ Extends values s = (more : List Bool) × Agrees (values ++ more) s
 
 agrees-extends : (values : List Bool) (s : ProofState) → Agrees values s → Extends values s
 agrees-extends values s h = ([], subst (λ v. Agrees v s) (sym (append-nil values)) h)
-
--- lists
-All-at : {X : Type 0} (P : X → Type 0) (xs : List X) (k : ℕ) → AllByRecursion P xs → IfSome (slice_get xs k) P
-All-at P [] k h = tt
-All-at P (x ∷ xs) zero h = h.0
-All-at P (x ∷ xs) (suc k) h = All-at P xs k h.1
-
-All-set : {X : Type 0} (P : X → Type 0) (xs : List X) (k : ℕ) (y : X) → AllByRecursion P xs → P y → AllByRecursion P (set xs k y)
-All-set P [] k y h p = tt
-All-set P (x ∷ xs) zero y h p = (p, h.1)
-All-set P (x ∷ xs) (suc k) y h p = (h.0, All-set P xs k y h.1 p)
-
-All-push : {X : Type 0} (P : X → Type 0) (xs : List X) (y : X) → AllByRecursion P xs → P y → AllByRecursion P (xs ++ y ∷ [])
-All-push P [] y h p = (p, tt)
-All-push P (x ∷ xs) y h p = (h.0, All-push P xs y h.1 p)
 
 -- hints
 live_of-holds : (values : List Bool) (o : Option Given) → IfSome o (LiveHolds values) → IfSome (option_and_then (λ entry. entry.live) o) (Holds values)
@@ -118,17 +105,6 @@ follow-agrees values s o lits hints h =
     (λ _. tt)
 
 -- deletions
-without-hold : (values : List Bool) (given : List Given) (id : ℕ) (entry : Option Given) → AllByRecursion (LiveHolds values) given → AllByRecursion (LiveHolds values) (without given id entry)
-without-hold values given id None h = h
-without-hold values given id (Some entry) h = All-set (LiveHolds values) given (id - 1) (record entry { live = None }) h tt
-
-deleted-hold : (values : List Bool) (ids : List ℕ) (given : List Given) → AllByRecursion (LiveHolds values) given → IfOk (deleted given ids) (AllByRecursion (LiveHolds values))
-deleted-hold values [] given h = h
-deleted-hold values (id ∷ ids) given h =
-    cond_both (is_none (live_at given id)) (Err 4) (deleted (without given id (given_at given id)) ids) (λ r. IfOk r (AllByRecursion (LiveHolds values)))
-    (λ _. tt)
-    (λ _. deleted-hold values ids (without given id (given_at given id)) (without-hold values given id (given_at given id) h))
-
 given-agrees : (values : List Bool) (s : ProofState) (r : Result (List Given) ℕ) → Agrees values s → IfOk r (AllByRecursion (LiveHolds values)) → IfOk (with_given s r) (Agrees values)
 given-agrees values s (Ok given) h k = record { vars = h.vars; live = k; unrefuted = h.unrefuted }
 given-agrees values s (Err cause) h k = tt
@@ -138,7 +114,7 @@ step-agrees : (values : List Bool) (s : ProofState) (line : Line) → Agrees val
 step-agrees values s (Header vars constraints) h = tt
 step-agrees values s (Lemma c hints) h = follow-agrees values s origin.Lemma c.lits hints h
 step-agrees values s (Learned c hints) h = follow-agrees values s origin.Learned c.lits hints h
-step-agrees values s (Delete ids) h = given-agrees values s (deleted s.given ids) h (deleted-hold values ids s.given h.live)
+step-agrees values s (Delete ids) h = given-agrees values s (deleted s.given ids) h (deleted-keep (Holds values) ids s.given h.live)
 
 step-extends : (values : List Bool) (s t : ProofState) (line : Line) → Extends values s → step s line ≡ Ok t → Extends values t
 step-extends values s t line h e =

@@ -2,3 +2,5 @@ pub mod States
 pub mod Steps
 pub mod Proofs
 pub mod Marks
+pub mod Feeding
+pub mod Restoring
