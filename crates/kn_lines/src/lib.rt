@@ -3,12 +3,23 @@
 //! is spelled.
 #![tactic(auto)]
 
+mod error;
 mod ids;
+mod laws;
 mod line;
+mod reading;
+mod writing;
 
+pub use error::LineError;
 pub use ids::Ids;
+pub use laws::{one_spelling, written_line_is_read};
 pub use line::{Arm, Line};
+pub use reading::read_line;
 use std::alloc::AllocError;
+pub use writing::{push_line, write_line};
 
 /// Want of memory.
 pub type NoMemory = AllocError;
+
+#[cfg(test)]
+mod tests;

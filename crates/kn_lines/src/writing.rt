@@ -1,0 +1,93 @@
+ghost use Rattle.std.specs.Prelude.{◌≡◌, ◌++◌, OnOk, IfOk};
+ghost use Rattle.kn_text.specs.Lines.{line_text};
+ghost use Rattle.kn_lines.specs.Lines.{IsWellFormed, line_words};
+ghost use Rattle.kn_lines.specs.Writing.{literals_text, ids_text, header_text, derived_text, delete_text, content_text};
+
+use crate::{Line, NoMemory};
+use kn_logic::Lit;
+use kn_text::{push_literal, push_number};
+use std::alloc::Global;
+
+/// The text of a line of a proof, with its line feed.
+pub fn write_line(alloc: Global, line: &Line) -> Result<Vec<u8>, NoMemory>
+    requires { IsWellFormed line.now }
+    ensures text { IfOk result (λ text. text.items ≡ line_text (line_words line.now)) }
+{
+    let mut text = Vec::new(alloc);
+    push_line(&mut text, line)?;
+    Ok(text)
+}
+
+/// Appends the text of a line of a proof, with its line feed. Where memory runs out, `out` may hold a part
+/// of it.
+pub fn push_line(out: &mut Vec<u8>, line: &Line) -> Result<(), NoMemory>
+    requires { IsWellFormed line.now }
+    ensures { OnOk result (out.new.items ≡ out.old.items ++ line_text (line_words line.now)) }
+{
+    push_content(out, line)?;
+    out.push(b'\n')?;
+    Ok(())
+}
+
+// Appends a line without its line feed.
+fn push_content(out: &mut Vec<u8>, line: &Line) -> Result<(), NoMemory>
+    ensures { OnOk result (out.new.items ≡ out.old.items ++ content_text line.now) }
+{
+    match line {
+        Line::Header { vars, constraints } => push_header(out, *vars, *constraints),
+        Line::Lemma { clause, hints } => push_derived(out, b"r", clause.lits(), hints.ids()),
+        Line::Learned { clause, hints } => push_derived(out, b"l", clause.lits(), hints.ids()),
+        Line::Delete { ids } => push_delete(out, ids.ids()),
+    }
+}
+
+fn push_header(out: &mut Vec<u8>, vars: u64, constraints: u64) -> Result<(), NoMemory>
+    ensures { OnOk result (out.new.items ≡ out.old.items ++ header_text vars constraints) }
+{
+    out.extend_from_slice(b"p kpf ")?;
+    push_number(out, vars)?;
+    out.push(b' ')?;
+    push_number(out, constraints)
+}
+
+fn push_derived(
+    out: &mut Vec<u8>,
+    first: &[u8],
+    lits: &[Lit],
+    hints: &[u64],
+) -> Result<(), NoMemory>
+    ensures { OnOk result (out.new.items ≡ out.old.items ++ derived_text first.now lits.now hints.now) }
+{
+    out.extend_from_slice(first)?;
+    push_literals(out, lits)?;
+    push_ids(out, hints)
+}
+
+fn push_delete(out: &mut Vec<u8>, ids: &[u64]) -> Result<(), NoMemory>
+    ensures { OnOk result (out.new.items ≡ out.old.items ++ delete_text ids.now) }
+{
+    out.push(b'x')?;
+    push_ids(out, ids)
+}
+
+// Appends literals, each behind a space, and an end mark.
+fn push_literals(out: &mut Vec<u8>, lits: &[Lit]) -> Result<(), NoMemory>
+    ensures { OnOk result (out.new.items ≡ out.old.items ++ literals_text lits.now) }
+{
+    for lit in lits {
+        out.push(b' ')?;
+        push_literal(out, *lit)?;
+    }
+    out.extend_from_slice(b" 0")
+}
+
+// Appends ids, each behind a space, and an end mark.
+fn push_ids(out: &mut Vec<u8>, ids: &[u64]) -> Result<(), NoMemory>
+    ensures { OnOk result (out.new.items ≡ out.old.items ++ ids_text ids.now) }
+{
+    for id in ids {
+        out.push(b' ')?;
+        push_number(out, *id)?;
+    }
+    out.extend_from_slice(b" 0")
+}
