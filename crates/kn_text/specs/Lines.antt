@@ -1,7 +1,7 @@
 -- Lines and words of a text. A line ends at a line feed or at the end of the text; a word is a longest
 -- run of bytes within a line that are not blank.
-use Rattle.std.specs.Prelude.{ℕ, ◌+◌, ◌==◌, Bool, true, false, ◌||◌, if◌then◌else◌, List, [], ◌∷◌, ◌++◌}
-use Rattle.std.specs.List.{join_with_byte}
+use Rattle.std.specs.Prelude.{ℕ, ◌≡◌, ◌<◌, ◌+◌, ◌==◌, Bool, true, false, ◌||◌, if◌then◌else◌, List, [], ◌∷◌, ◌++◌, length}
+use Rattle.std.specs.List.{AllByRecursion, join_with_byte}
 
 -- a space, a tab or a carriage return
 abbrev pub is_blank : ℕ → Bool
@@ -58,3 +58,28 @@ content_of text = content_from 1 (lines_of text)
 -- how a line is written: its words with one space between two of them, and a line feed
 abbrev pub line_text : List (List ℕ) → List ℕ
 line_text words = join_with_byte 32 words ++ 10 ∷ []
+
+-- no byte is a line feed
+abbrev pub HasNoFeed : List ℕ → Type 0
+HasNoFeed bytes = AllByRecursion (λ b. (b == 10) ≡ false) bytes
+
+-- the byte may stand in a word: it neither parts two words nor ends a line
+abbrev pub StandsInWord : ℕ → Type 0
+StandsInWord b = (is_blank b ≡ false) × ((b == 10) ≡ false)
+
+-- a word that reads as it is written: it is not empty, and each of its bytes may stand in a word
+abbrev pub IsPlain : List ℕ → Type 0
+IsPlain word = (0 < length word) × AllByRecursion StandsInWord word
+
+-- a line that reads as it is written: each of its words does
+abbrev pub IsPlainLine : List (List ℕ) → Type 0
+IsPlainLine words = AllByRecursion IsPlain words
+
+-- a line that is written for itself: it is not skipped
+abbrev pub IsContent : List (List ℕ) → Type 0
+IsContent words = is_skipped words ≡ false
+
+-- lines with these words, numbered one by one from a number on
+abbrev pub numbered : ℕ → List (List (List ℕ)) → List Line
+numbered number [] = []
+numbered number (words ∷ lines) = record { number = number; words = words } ∷ numbered (number + 1) lines

@@ -1,6 +1,6 @@
 -- Numbers and literals as words. A number is one or more decimal digits, leading zeros among them, with
 -- a value of at most 2^64 - 1; a literal is a number of at least 1, or a `-` followed directly by one.
-use Rattle.std.specs.Prelude.{ℕ, ◌+◌, ◌-◌, ◌*◌, ◌^◌, ◌==◌, nat_lt, Bool, true, false, if◌then◌else◌, List, [], ◌∷◌, Option, Some, None, option_and_then, decimal}
+use Rattle.std.specs.Prelude.{ℕ, ◌≡◌, ◌≤◌, ◌<◌, ◌+◌, ◌-◌, ◌*◌, ◌^◌, ◌==◌, nat_lt, Bool, true, false, if◌then◌else◌, List, [], ◌∷◌, Option, Some, None, option_and_then, decimal}
 use Rattle.std.specs.Char.{is_ascii_digit}
 use Rattle.kn_logic.specs.Literals.{Literal}
 
@@ -36,3 +36,10 @@ is_end word = is_zero (number_of word)
 -- how a literal is written
 abbrev pub literal_word : Literal → List ℕ
 literal_word l = if l.positive then decimal l.variable else 45 ∷ decimal l.variable
+
+abbrev pub IsDigit : ℕ → Type 0
+IsDigit b = is_ascii_digit b ≡ true
+
+-- the literal of a variable that a word can name
+abbrev pub IsWritable : Literal → Type 0
+IsWritable l = (1 ≤ l.variable) × (l.variable < 2 ^ 64)
