@@ -4,3 +4,4 @@ pub mod Deleting
 pub mod Sound
 pub mod MarkLemmas
 pub mod Ready
+pub mod Faults

@@ -1,9 +1,9 @@
 -- What a checker keeps between two lines.
-use Rattle.std.proofs.Common.{◌≡◌, ℕ, ◌≤◌, ◌++◌, Bool, true, leb, List, [], ◌∷◌, map, Option, Some, None, IfSome, refl}
+use Rattle.std.proofs.Common.{◌≡◌, ℕ, ◌++◌, true, leb, List, [], ◌∷◌, map, Some}
 use Rattle.std.specs.List.{AllByRecursion}
 use Rattle.std.proofs.lemmas.Bool.{and_parts, leb-true}
-use Rattle.kn_logic.specs.Literals.{Literal, IsKnown, AreKnown}
-use Rattle.kn_logic.specs.Constraints.{Bounded, clause, IsWithin, Fits}
+use Rattle.kn_logic.specs.Literals.{Literal, AreKnown}
+use Rattle.kn_logic.specs.Constraints.{Bounded, clause, Fits}
 use Rattle.kn_rules.specs.declared.given.Given.{Given}
 use Rattle.kn_rules.specs.declared.given.Origin.{Origin}
 use Rattle.kn_rules.specs.States.{from_file, IsLiveWithin, AreLiveWithin}

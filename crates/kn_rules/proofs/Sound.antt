@@ -1,6 +1,6 @@
 -- An accepted proof leaves its formula without a model. Each line keeps this: every model of the file,
 -- with values for the variables that are defined behind those of the file, meets what is live.
-use Rattle.std.proofs.Common.{◌≡◌, ℕ, zero, suc, ◌-◌, ◌≤◌, ◌⊎◌, ◌++◌, Bool, true, false, not, eqb, List, [], ◌∷◌, length, map, set, Option, None, Some, IfSome, Result, Ok, Err, IfOk, refl, sym, ap, ◌∙◌, subst, inl, inr, arith}
+use Rattle.std.proofs.Common.{◌≡◌, ℕ, ◌-◌, ◌≤◌, ◌⊎◌, ◌++◌, Bool, true, false, not, eqb, List, [], ◌∷◌, length, map, Option, None, Some, IfSome, Result, Ok, Err, IfOk, refl, sym, ap, ◌∙◌, subst, inl, inr, arith}
 use Rattle.std.specs.List.{AllByRecursion, slice_get}
 use Rattle.std.specs.Option.{is_none, option_and_then, option_map}
 use Rattle.std.proofs.lemmas.Bool.{cond_both, or_from}
@@ -16,10 +16,10 @@ use Rattle.kn_rules.specs.declared.given.Given.{Given}
 use Rattle.kn_rules.specs.declared.given.Origin.{Origin}
 use Rattle.kn_rules.specs.declared.given.Origin.TheVariants as origin
 use Rattle.kn_rules.specs.States.{ProofState, start, from_file, given_at, live_at}
-use Rattle.kn_rules.specs.Steps.{hinted, is_conflict, is_empty, with_clause, if_conflict, follow, without, deleted, with_given, step}
+use Rattle.kn_rules.specs.Steps.{hinted, is_conflict, is_empty, with_clause, if_conflict, follow, deleted, with_given, step}
 use Rattle.kn_rules.specs.Proofs.{Runs, StepsThrough, IsProof}
 use Rattle.kn_rules.proofs.Deleting.{deleted-keep}
-use Rattle.kn_rules.proofs.Elements.{All-at, All-set, All-push}
+use Rattle.kn_rules.proofs.Elements.{All-at, All-push}
 use Rattle.kn_rules.proofs.Truth.{AreTrue, GoesOn, true-negated, run-goes_on}
 
 -- what an id stands for holds, unless it is deleted

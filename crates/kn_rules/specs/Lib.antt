@@ -4,3 +4,4 @@ pub mod Proofs
 pub mod Marks
 pub mod Feeding
 pub mod Restoring
+pub mod Checking

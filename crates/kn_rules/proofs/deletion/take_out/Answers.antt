@@ -1,5 +1,4 @@
-use Rattle.std.proofs.Common.{◌≡◌, Some, length, refl, sym, ap, ◌∙◌, subst, arith, rules, vec_len}
-use Rattle.std.proofs.lemmas.Grind.{common_steps}
+use Rattle.std.proofs.Common.{◌≡◌, length, refl, sym, subst, arith, rules}
 use Rattle.kn_rules.specs.Restoring.{restored}
 use Rattle.kn_rules.proofs.Deleting.{taken-back, taken-rest}
 use Rattle.kn_rules.proofs.deletion.take_out.Goals as goal

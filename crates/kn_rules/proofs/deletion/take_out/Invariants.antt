@@ -1,4 +1,4 @@
-use Rattle.std.proofs.Common.{◌≡◌, ◌≤◌, take, drop, length, vec_len, vec_capacity}
+use Rattle.std.proofs.Common.{◌≡◌, ◌≤◌, drop, length, vec_len, vec_capacity}
 use Rattle.kn_rules.specs.Steps.{deleted}
 use Rattle.kn_rules.specs.Restoring.{restored}
 use Rattle.kn_rules.proofs.deletion.take_out.Given as goal

@@ -1,4 +1,4 @@
-use Rattle.std.proofs.Common.{◌≡◌, ◌++◌, take, filter, length, vec_len}
+use Rattle.std.proofs.Common.{◌≡◌, ◌++◌, take, filter}
 use Rattle.kn_rules.specs.Marks.{is_unopposed}
 use Rattle.kn_rules.proofs.trail.append_unopposed.Given as goal
 

@@ -1,4 +1,4 @@
-use Rattle.std.proofs.Common.{◌≡◌, ◌++◌, List, length, take}
+use Rattle.std.proofs.Common.{◌++◌, List, take}
 use Rattle.kn_logic.specs.Literals.{Literal}
 use Rattle.kn_rules.specs.Marks.{IsMarked}
 use Rattle.kn_rules.proofs.trail.mark_all.Given as goal

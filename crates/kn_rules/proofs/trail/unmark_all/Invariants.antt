@@ -1,4 +1,4 @@
-use Rattle.std.proofs.Common.{◌≡◌, drop}
+use Rattle.std.proofs.Common.{drop}
 use Rattle.kn_rules.proofs.MarkLemmas.{IsUnmarked}
 use Rattle.kn_rules.proofs.trail.unmark_all.Given as goal
 

@@ -1,4 +1,4 @@
-use Rattle.std.proofs.Common.{◌≡◌, Ok, length, sym, subst, ap, ◌∙◌, rules, refl, true}
+use Rattle.std.proofs.Common.{◌≡◌, Ok, length, sym, subst, rules}
 use Rattle.kn_logic.specs.Constraints.{IsWithin}
 use Rattle.kn_rules.specs.Steps.{deleted}
 use Rattle.kn_rules.proofs.Deleting.{AllLive, deleted-still, written}

@@ -1,5 +1,4 @@
-use Rattle.std.proofs.Common.{◌≡◌, true, ap, subst, sym, ◌∙◌, rules, length}
-use Rattle.kn_logic.specs.Literals.{AreKnown}
+use Rattle.std.proofs.Common.{◌≡◌, true, ap, ◌∙◌, rules}
 use Rattle.kn_rules.specs.Marks.{Assumed}
 use Rattle.kn_rules.specs.Steps.{are_known}
 use Rattle.kn_rules.proofs.Ready.{known-test, clause-within}

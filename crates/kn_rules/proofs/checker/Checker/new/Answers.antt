@@ -1,5 +1,3 @@
-use Rattle.std.proofs.Common.{◌≡◌, map, length}
-use Rattle.kn_rules.specs.States.{from_file, AreLiveWithin}
 use Rattle.kn_rules.proofs.Ready.{file-within}
 use Rattle.kn_rules.proofs.checker.Checker.new.Goals as goal
 

@@ -1,4 +1,4 @@
-use Rattle.std.proofs.Common.{◌≡◌, ◌++◌, sym, ap, ◌∙◌, subst, length, filter, drop, take, arith}
+use Rattle.std.proofs.Common.{◌≡◌, sym, ap, ◌∙◌, subst, length, filter, arith}
 use Rattle.std.proofs.lemmas.Grind.{common_steps}
 use Rattle.kn_logic.specs.Literals.{AreKnown}
 use Rattle.kn_rules.specs.Marks.{Assumed, is_unopposed}
