@@ -18,3 +18,6 @@ pub use checker::{Checker, FeedError};
 pub use given::{Given, Origin};
 pub use laws::{never_both, proof_refutes};
 pub use whole::{Checked, check};
+
+#[cfg(test)]
+mod tests;
