@@ -1,3 +1,7 @@
 pub mod States
 pub mod Steps
 pub mod Proofs
+pub mod Marks
+pub mod Feeding
+pub mod Restoring
+pub mod Checking

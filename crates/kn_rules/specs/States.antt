@@ -1,9 +1,11 @@
 -- The state of a proof: what its lines so far have given.
-use Rattle.std.specs.Prelude.{ℕ, ◌-◌, ◌==◌, Bool, false, if◌then◌else◌, List, [], map, Option, Some, None, option_and_then, slice_get}
+use Rattle.std.specs.Prelude.{ℕ, ◌≡◌, ◌-◌, ◌==◌, Bool, false, if◌then◌else◌, List, [], map, Option, Some, None, option_and_then, slice_get, IfSome}
+use Rattle.std.specs.List.{AllByRecursion}
 use Rattle.kn_logic.specs.Literals.{Literal}
-use Rattle.kn_logic.specs.Constraints.{Bounded}
+use Rattle.kn_logic.specs.Constraints.{Bounded, IsWithin}
 use Rattle.kn_logic.specs.Formulas.{Problem}
 use Rattle.kn_lines.specs.declared.line.Arm.{Arm}
+use Rattle.kn_rules.specs.Marks.{Assumed}
 use Rattle.kn_rules.specs.declared.given.Given.{Given}
 use Rattle.kn_rules.specs.declared.given.Origin.TheVariants.{File}
 
@@ -38,3 +40,15 @@ given_at given id = if id == 0 then None else slice_get given (id - 1)
 -- the constraint of a live id; none where the id was not given or is deleted
 abbrev pub live_at : List Given → ℕ → Option Bounded
 live_at given id = option_and_then (λ entry. entry.live) (given_at given id)
+
+-- Each live constraint is over the variables from 1 to this number.
+abbrev pub IsLiveWithin : ℕ → Given → Type 0
+IsLiveWithin vars entry = IfSome entry.live (IsWithin vars)
+
+abbrev pub AreLiveWithin : ℕ → List Given → Type 0
+AreLiveWithin vars given = AllByRecursion (IsLiveWithin vars) given
+
+-- what a checker keeps between two lines: its constraints are over its variables, and no hint is run
+pub record IsReady (vars : ℕ) (given : List Given) (assumed : Assumed) : Type 0 where
+  pub trail : assumed ≡ record { vars = vars; lits = [] }
+  pub within : AreLiveWithin vars given

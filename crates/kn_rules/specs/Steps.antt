@@ -4,7 +4,7 @@
 --   3  a variable of the line is not known
 --   4  an id of the line is not live
 --   5  the run of hints does not end in conflict
-use Rattle.std.specs.Prelude.{ℕ, ◌-◌, ◌++◌, ◌∷◌, nat_le, Bool, true, false, not, ◌&&◌, ◌||◌, if◌then◌else◌, List, [], map, Option, Some, None, Result, Ok, Err, option_map, option_and_then, slice_set}
+use Rattle.std.specs.Prelude.{ℕ, ◌-◌, ◌++◌, ◌∷◌, nat_le, Bool, true, false, ◌&&◌, ◌||◌, if◌then◌else◌, List, [], map, Option, Some, None, Result, Ok, Err, option_map, option_and_then, slice_set}
 use Rattle.std.specs.List.{list_all}
 use Rattle.std.specs.Option.{is_none}
 use Rattle.kn_logic.specs.Literals.{Literal, negated}

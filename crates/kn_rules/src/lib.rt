@@ -1,6 +1,23 @@
-//! The rules of proofs.
+//! The checker of proofs, which is exact, and the law that an accepted proof leaves its formula without a
+//! model. `check` answers for a whole text; what makes proofs line by line keeps a `Checker` beside it, and
+//! reads off which ids are live. The definitions stand in `specs/`: what ids stand for (`States`), what a
+//! line asks of a state and makes of it (`Steps`), whole proofs and their first fault (`Proofs`).
+//! `Feeding` and `Checking` have the words of the contracts, `Marks` and `Restoring` what the code keeps.
 #![tactic(auto)]
 
+mod checker;
+mod deletion;
 mod given;
+mod hints;
+mod ids;
+mod laws;
+mod trail;
+mod whole;
 
+pub use checker::{Checker, FeedError};
 pub use given::{Given, Origin};
+pub use laws::{never_both, proof_refutes};
+pub use whole::{Checked, check};
+
+#[cfg(test)]
+mod tests;

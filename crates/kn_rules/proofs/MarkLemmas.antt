@@ -1,0 +1,139 @@
+-- The table of a list of literals: what it says, and what marking and unmarking make of it.
+use Rattle.std.proofs.Common.{◌≡◌, ◌≢◌, ℕ, ◌+◌, ◌-◌, ◌<◌, ◌++◌, ◌==◌, ◌&&◌, ◌||◌, Bool, true, false, not, cond, eqb, List, [], ◌∷◌, length, take, get_or, set, replicate, append_assoc, refl, sym, ap, ◌∙◌, subst, inl, inr, arith}
+use Rattle.std.specs.List.{filter}
+use Rattle.std.proofs.lemmas.Bool.{or_parts, eqb-false, eq-eqb, ne_eqb, cases_eq}
+use Rattle.std.proofs.lemmas.List.Elements.{All-from_recursion}
+use Rattle.std.proofs.lemmas.List.{take_more, get_or-replicate, length-replicate, length-set, get_or-set_same, get_or-set_other}
+use Rattle.kn_logic.specs.Literals.{Literal, negated, is_same, has, names, IsKnown, AreKnown}
+use Rattle.kn_logic.specs.Propagation.{is_open}
+use Rattle.kn_rules.specs.Marks.{unmarked, mark_of, IsMarked, entry_of, is_marked, with_literal, marked, is_unopposed}
+use Rattle.kn_rules.specs.declared.trail.Mark.{Mark}
+
+-- the list is over the variables of the table, and a variable that it does not name is unmarked
+pub record IsUnmarked (marks : List Mark) (lits : List Literal) : Type 0 where
+  pub known : AreKnown (length marks) lits
+  pub exact : (k : ℕ) → k < length marks → names lits (k + 1) ≡ false → get_or marks k unmarked ≡ unmarked
+
+-- known literals
+pub known-append : (vars : ℕ) (a b : List Literal) → AreKnown vars a → AreKnown vars b → AreKnown vars (a ++ b)
+known-append vars [] b h k = k
+known-append vars (l ∷ a) b h k = (h.0, known-append vars a b h.1 k)
+
+keep_known : (vars : ℕ) (l : Literal) (lits : List Literal) (t : Bool) → IsKnown vars l → AreKnown vars lits → AreKnown vars (cond t (l ∷ lits) lits)
+keep_known vars l lits true h k = (h, k)
+keep_known vars l lits false h k = k
+
+pub known-filter : (vars : ℕ) (p : Literal → Bool) (lits : List Literal) → AreKnown vars lits → AreKnown vars (filter p lits)
+known-filter vars p [] h = tt
+known-filter vars p (l ∷ lits) h = keep_known vars l (filter p lits) (p l) h.0 (known-filter vars p lits h.1)
+
+-- what the table says
+flag : (lits : List Literal) (variable : ℕ) (positive : Bool) → cond positive (mark_of lits variable).positive (mark_of lits variable).negative ≡ has lits (record { variable = variable; positive = positive })
+flag lits variable true = refl
+flag lits variable false = refl
+
+entry_is : (marks : List Mark) (lits : List Literal) (l : Literal) → IsMarked marks lits → IsKnown (length marks) l → entry_of marks l ≡ mark_of lits l.variable
+entry_is marks lits l m k =
+    let e : l.variable - 1 + 1 ≡ l.variable = omega arith in
+    m.exact (l.variable - 1) (omega arith) ∙ ap (mark_of lits) e
+
+pub marked-has : (marks : List Mark) (lits : List Literal) (l : Literal) → IsMarked marks lits → IsKnown (length marks) l → is_marked marks l ≡ has lits l
+marked-has marks lits l m k =
+    ap (λ (x : Mark). cond l.positive x.positive x.negative) (entry_is marks lits l m k) ∙ flag lits l.variable l.positive
+
+pub unopposed-open : (marks : List Mark) (lits : List Literal) (l : Literal) → IsMarked marks lits → IsKnown (length marks) l → is_unopposed marks l ≡ is_open lits l
+unopposed-open marks lits l m k = ap not (marked-has marks lits (negated l) m k)
+
+pub unopposed-filter : (marks : List Mark) (trail lits : List Literal) → IsMarked marks trail → AreKnown (length marks) lits → filter (is_unopposed marks) lits ≡ filter (is_open trail) lits
+unopposed-filter marks trail [] m k = refl
+unopposed-filter marks trail (l ∷ lits) m k =
+    let e = unopposed-open marks trail l m k.0 in
+    let ih = unopposed-filter marks trail lits m k.1 in
+    rw (e, ih) refl
+
+-- the table at first
+pub replicate-marked : (vars : ℕ) → IsMarked (replicate vars unmarked) []
+replicate-marked vars = record { known = tt; exact = λ k h. get_or-replicate vars k unmarked unmarked (simp length-replicate at h) }
+
+-- one literal more
+has-push : (lits : List Literal) (l x : Literal) → has (lits ++ l ∷ []) x ≡ (has lits x || is_same x l)
+has-push [] l x = elim (is_same x l) as (λ b. (b || false) ≡ b) [ true ↦ refl | false ↦ refl ]
+has-push (y ∷ lits) l x = or_under (is_same x y) _ _ _ (has-push lits l x)
+  where
+    or_under : (a b c d : Bool) → b ≡ (c || d) → (a || b) ≡ (a || c || d)
+    or_under true b c d e = refl
+    or_under false b c d e = e
+
+same_mark : (a b p n : Bool) → a ≡ p → b ≡ n → ◌≡◌ {A = Mark} (record { positive = a; negative = b }) (record { positive = p; negative = n })
+same_mark a b p n e f = cc
+
+or_false : (a : Bool) → (a || false) ≡ a
+or_false true = refl
+or_false false = refl
+
+at_variable : (lits : List Literal) (l : Literal) (variable : ℕ) (t : Bool) → (variable == l.variable) ≡ t → mark_of (lits ++ l ∷ []) variable ≡ cond t (with_literal (mark_of lits variable) l) (mark_of lits variable)
+at_variable lits l variable true e =
+    let yes : Literal = record { variable = variable; positive = true } in
+    let no : Literal = record { variable = variable; positive = false } in
+    same_mark _ _ _ _
+    (has-push lits l yes ∙ ap (λ t. has lits yes || (t && l.positive)) e)
+    (has-push lits l no ∙ ap (λ t. has lits no || (t && not l.positive)) e)
+at_variable lits l variable false e =
+    let yes : Literal = record { variable = variable; positive = true } in
+    let no : Literal = record { variable = variable; positive = false } in
+    same_mark _ _ _ _
+    (has-push lits l yes ∙ ap (λ t. has lits yes || (t && l.positive)) e ∙ or_false _)
+    (has-push lits l no ∙ ap (λ t. has lits no || (t && not l.positive)) e ∙ or_false _)
+
+at_place : (marks : List Mark) (lits : List Literal) (l : Literal) → IsMarked marks lits → IsKnown (length marks) l → (k : ℕ) → k < length marks → get_or (marked marks l) k unmarked ≡ mark_of (lits ++ l ∷ []) (k + 1)
+at_place marks lits l m known k h =
+    elim (cases_eq (k + 1) l.variable) [
+      | inl same ↦ (
+          let place : l.variable - 1 ≡ k = omega arith in
+          let here : get_or (marked marks l) k unmarked ≡ with_literal (entry_of marks l) l =
+          ap (λ (p : ℕ). get_or (set marks p (with_literal (entry_of marks l) l)) k unmarked) place ∙ get_or-set_same marks k _ unmarked h in
+          here ∙ ap (λ (x : Mark). with_literal x l) (entry_is marks lits l m known ∙ ap (mark_of lits) (sym same)) ∙ sym (at_variable lits l (k + 1) true (eq-eqb _ _ same))
+          )
+      | inr differs ↦ (
+          let place : k ≢ l.variable - 1 = omega arith in
+          get_or-set_other marks (l.variable - 1) k _ unmarked place ∙ m.exact k h ∙ sym (at_variable lits l (k + 1) false (ne_eqb _ _ differs))
+          )
+    ]
+
+pub push-marked : (marks : List Mark) (lits : List Literal) (l : Literal) → IsMarked marks lits → IsKnown (length marks) l → IsMarked (marked marks l) (lits ++ l ∷ [])
+push-marked marks lits l m k =
+    let len : length (marked marks l) ≡ length marks = length-set marks _ _ in
+    record {
+      known = rw len (known-append (length marks) lits (l ∷ []) m.known (k, tt));
+      exact = λ j h. at_place marks lits l m k j (rw len at h);
+    }
+
+pub known_at : (vars : ℕ) (lits : List Literal) (k : ℕ) (d : Literal) → AreKnown vars lits → k < length lits → IsKnown vars (get_or lits k d)
+known_at vars lits k d h i = All-from_recursion (IsKnown vars) lits h k d i
+
+-- the table after one turn of the loop that marks all
+pub marks-more : (marks new : List Mark) (before lits : List Literal) (k vars : ℕ) (l : Literal) → IsMarked marks (before ++ take k lits) → new ≡ marked marks l → k < length lits → l ≡ get_or lits k l → AreKnown vars lits → length marks ≡ vars → IsMarked new (before ++ take (k + 1) lits)
+marks-more marks new before lits k vars l m e h is known len =
+    let here : IsKnown vars l = subst (IsKnown vars) (sym is) (known_at vars lits k l known h) in
+    let next = push-marked marks _ l m (subst (λ n. IsKnown n l) (sym len) here) in
+    let list : before ++ take k lits ++ l ∷ [] ≡ before ++ take (k + 1) lits =
+    append_assoc before (take k lits) (l ∷ []) ∙ ap (λ (x : Literal). before ++ (take k lits ++ x ∷ [])) is ∙ ap (λ (xs : List Literal). before ++ xs) (sym (take_more lits k l h)) in
+    subst (λ x. IsMarked x (before ++ take (k + 1) lits)) (sym e) (subst (IsMarked (marked marks l)) list next)
+
+-- the table of a list without its literals
+unnamed : (lits : List Literal) (x : Literal) → names lits x.variable ≡ false → has lits x ≡ false
+unnamed [] x h = refl
+unnamed (l ∷ lits) x h =
+    let parts = or_parts (eqb l.variable x.variable) (names lits x.variable) h in
+    let differs : eqb x.variable l.variable ≡ false = ne_eqb _ _ (λ e. eqb-false _ _ parts.0 (sym e)) in
+    rw differs (unnamed lits x parts.1)
+
+pub marked-unmarked : (marks : List Mark) (lits : List Literal) → IsMarked marks lits → IsUnmarked marks lits
+marked-unmarked marks lits m = record {
+  known = m.known;
+  exact = λ k h n.
+      let e = m.exact k h in
+      let p = unnamed lits (record { variable = k + 1; positive = true }) n in
+      let q = unnamed lits (record { variable = k + 1; positive = false }) n in
+      cc;
+}
