@@ -1,11 +1,13 @@
 -- How a text spells a formula: DIMACS CNF, and KNF, which has klauses too.
-use Rattle.std.specs.Prelude.{ℕ, ◌≡◌, ◌≤◌, ◌==◌, ◌⊎◌, ◌++◌, Bool, true, false, List, [], ◌∷◌, length, flat_map, Option, Some, None, IsSome, codes}
-use Rattle.kn_logic.specs.Literals.{Literal, AreDifferent}
-use Rattle.kn_logic.specs.Constraints.{Bounded, clause, klause, guarded_klause, named}
+use Rattle.std.specs.Prelude.{ℕ, ◌≡◌, ◌≤◌, ◌⊎◌, ◌++◌, List, [], ◌∷◌, length, flat_map, Some, IsSome, codes}
+use Rattle.kn_logic.specs.Literals.{AreDifferent}
+use Rattle.kn_logic.specs.Constraints.{Bounded, clause, klause, named}
 use Rattle.kn_logic.specs.Formulas.{Problem, IsFormula}
 use Rattle.kn_text.specs.Lines.{Line, content_of}
 use Rattle.kn_text.specs.Numbers.{number_of, literal_of}
 use Rattle.kn_text.specs.Lists.{LiteralsThen}
+use Rattle.kn_format.specs.declared.format.Format.{Format}
+use Rattle.kn_format.specs.declared.format.Format.TheVariants.{Cnf, Knf}
 
 -- the most variables, constraints and bound that a text may have
 abbrev pub most_variables : ℕ
@@ -17,15 +19,10 @@ most_constraints = 10000000
 abbrev pub highest_bound : ℕ
 highest_bound = 1000000
 
--- which of the two formats a text has
-pub data Format : Type 0 where
-  cnf : Format
-  knf : Format
-
 -- the word that names the format
 abbrev pub format_word : Format → List ℕ
-format_word cnf = codes "cnf"
-format_word knf = codes "knf"
+format_word Cnf = codes "cnf"
+format_word Knf = codes "knf"
 
 -- the problem line: `p cnf V C` or `p knf V C`
 abbrev pub SpellsProblem : List (List ℕ) → Format → ℕ → ℕ → Type 0
@@ -61,8 +58,8 @@ MarkedThen behind (word ∷ words) c =
 
 -- A `cnf` text has clauses alone.
 abbrev pub ConstraintThen : Format → (List (List ℕ) → Type 0) → List (List ℕ) → Bounded → Type 0
-ConstraintThen cnf behind words c = ClauseThen behind words c
-ConstraintThen knf behind words c = ClauseThen behind words c ⊎ MarkedThen behind words c
+ConstraintThen Cnf behind words c = ClauseThen behind words c
+ConstraintThen Knf behind words c = ClauseThen behind words c ⊎ MarkedThen behind words c
 
 -- the words are the constraints, one after another
 abbrev pub SpellConstraints : Format → List (List ℕ) → List Bounded → Type 0

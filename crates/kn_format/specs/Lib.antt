@@ -1,2 +1,5 @@
 pub mod Grammar
+pub mod Faults
+pub mod Reading
 pub mod Texts
+pub mod Writing

@@ -6,7 +6,6 @@ use Rattle.std.proofs.lemmas.List.{append-nil}
 use Rattle.std.proofs.lemmas.Bool.{eqb-false, ne_eqb}
 use Rattle.std.proofs.lemmas.Slice.Eq.{bytes_eq-Decides}
 use Rattle.kn_logic.specs.Literals.{Literal}
-use Rattle.kn_logic.specs.Constraints.{Bounded, clause}
 use Rattle.kn_text.specs.Lines.{is_skipped}
 use Rattle.kn_text.specs.Numbers.{number_of, literal_of, is_end, is_zero}
 use Rattle.kn_text.proofs.Spelled.{literal_is_no_end}

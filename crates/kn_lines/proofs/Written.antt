@@ -1,5 +1,5 @@
 -- A line that is written is read again, and what is read can be written.
-use Rattle.std.proofs.Common.{◌≡◌, ◌≤◌, ◌<◌, ◌^◌, ℕ, Bool, true, false, List, [], ◌∷◌, ◌++◌, map, codes, decimal, refl, sym, subst, lit<}
+use Rattle.std.proofs.Common.{◌<◌, ◌^◌, ℕ, List, [], ◌∷◌, ◌++◌, map, codes, decimal, refl, sym, subst, lit<}
 use Rattle.std.specs.List.{join_with_byte}
 use Rattle.kn_logic.specs.Literals.{Literal}
 use Rattle.kn_text.specs.Lines.{IsPlain, IsPlainLine, IsContent}

@@ -1,8 +1,8 @@
 -- The lines of a proof: how each is spelled, and how it is written.
-use Rattle.std.specs.Prelude.{ℕ, ◌≡◌, ◌≤◌, ◌<◌, ◌^◌, true, false, List, [], ◌∷◌, ◌++◌, map, Some, None, codes, decimal}
+use Rattle.std.specs.Prelude.{ℕ, ◌≡◌, ◌≤◌, ◌<◌, ◌^◌, true, false, List, [], ◌∷◌, ◌++◌, map, Some, codes, decimal}
 use Rattle.std.specs.List.{AllByRecursion}
 use Rattle.kn_logic.specs.Literals.{Literal}
-use Rattle.kn_logic.specs.Constraints.{Bounded, clause}
+use Rattle.kn_logic.specs.Constraints.{clause}
 use Rattle.kn_text.specs.Lines.{words_of, is_skipped}
 use Rattle.kn_text.specs.Numbers.{number_of, is_end, literal_word}
 use Rattle.kn_text.specs.Lists.{LiteralsThen}

@@ -1,5 +1,5 @@
 -- The text of a line, piece by piece as it is written. It is that of the line's words.
-use Rattle.std.specs.Prelude.{ℕ, List, [], ◌∷◌, ◌++◌, codes, decimal}
+use Rattle.std.specs.Prelude.{ℕ, List, ◌∷◌, ◌++◌, codes, decimal}
 use Rattle.std.specs.List.{flat_map}
 use Rattle.kn_logic.specs.Literals.{Literal}
 use Rattle.kn_text.specs.Numbers.{literal_word}

@@ -1,4 +1,4 @@
-ghost use Rattle.std.specs.Prelude.{◌≡◌, [], true, Some, None, if◌then◌else◌, IfOk, IfSome, IfNone, IsErrOf};
+ghost use Rattle.std.specs.Prelude.{◌≡◌, [], true, false, Some, None, if◌then◌else◌, IfOk, IfSome, IfNone, IsErrOf};
 ghost use Rattle.kn_text.specs.Lines.{is_skipped, words_of};
 ghost use Rattle.kn_lines.specs.Lines.{SpellsLine, SpellsNone, IsWellFormed};
 ghost use Rattle.kn_lines.specs.Reading.{literals_behind, ids_behind, if_last, header_of, derived_of, delete_of, line_of};
@@ -13,6 +13,7 @@ use std::alloc::Global;
 pub fn read_line(alloc: Global, bytes: &[u8]) -> Result<Option<Line>, LineError>
     ensures spelled { IfOk result (λ read. IfSome read (λ line. SpellsLine bytes.now line)) }
     ensures formed { IfOk result (λ read. IfSome read (λ line. IsWellFormed line)) }
+    ensures kept { IfOk result (λ read. IfSome read (λ _. is_skipped (words_of bytes.now) ≡ false)) }
     ensures skipped { IfOk result (λ read. IfNone read (is_skipped (words_of bytes.now) ≡ true)) }
     ensures bad { IsErrOf result LineError.Bad → SpellsNone bytes.now }
 {

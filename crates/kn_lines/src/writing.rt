@@ -1,17 +1,20 @@
 ghost use Rattle.std.specs.Prelude.{◌≡◌, ◌++◌, OnOk, IfOk};
 ghost use Rattle.kn_text.specs.Lines.{line_text};
-ghost use Rattle.kn_lines.specs.Lines.{IsWellFormed, line_words};
-ghost use Rattle.kn_lines.specs.Writing.{literals_text, ids_text, header_text, derived_text, delete_text, content_text};
+ghost use Rattle.kn_text.specs.Numbers.{literal_word, IsWritable};
+ghost use Rattle.kn_lines.specs.Lines.{AreLiterals, AreNumbers, IsInRange, IsWellFormed, line_words};
+ghost use Rattle.kn_lines.specs.Writing.{spaced, literals_text, ids_text, header_text, derived_text, delete_text, content_text};
 
 use crate::{Line, NoMemory};
 use kn_logic::Lit;
 use kn_text::{push_literal, push_number};
 use std::alloc::Global;
 
-/// The text of a line of a proof, with its line feed.
+/// The text of a line of a proof, with its line feed. What is written is read again: the numbers of a line
+/// in memory are all in the range of those of a text.
 pub fn write_line(alloc: Global, line: &Line) -> Result<Vec<u8>, NoMemory>
     requires { IsWellFormed line.now }
     ensures text { IfOk result (λ text. text.items ≡ line_text (line_words line.now)) }
+    ensures range { IfOk result (λ _. IsInRange line.now) }
 {
     let mut text = Vec::new(alloc);
     push_line(&mut text, line)?;
@@ -22,7 +25,8 @@ pub fn write_line(alloc: Global, line: &Line) -> Result<Vec<u8>, NoMemory>
 /// of it.
 pub fn push_line(out: &mut Vec<u8>, line: &Line) -> Result<(), NoMemory>
     requires { IsWellFormed line.now }
-    ensures { OnOk result (out.new.items ≡ out.old.items ++ line_text (line_words line.now)) }
+    ensures text { OnOk result (out.new.items ≡ out.old.items ++ line_text (line_words line.now)) }
+    ensures range { OnOk result (IsInRange line.now) }
 {
     push_content(out, line)?;
     out.push(b'\n')?;
@@ -31,7 +35,8 @@ pub fn push_line(out: &mut Vec<u8>, line: &Line) -> Result<(), NoMemory>
 
 // Appends a line without its line feed.
 fn push_content(out: &mut Vec<u8>, line: &Line) -> Result<(), NoMemory>
-    ensures { OnOk result (out.new.items ≡ out.old.items ++ content_text line.now) }
+    ensures text { OnOk result (out.new.items ≡ out.old.items ++ content_text line.now) }
+    ensures range { OnOk result (IsInRange line.now) }
 {
     match line {
         Line::Header { vars, constraints } => push_header(out, *vars, *constraints),
@@ -56,7 +61,9 @@ fn push_derived(
     lits: &[Lit],
     hints: &[u64],
 ) -> Result<(), NoMemory>
-    ensures { OnOk result (out.new.items ≡ out.old.items ++ derived_text first.now lits.now hints.now) }
+    ensures text { OnOk result (out.new.items ≡ out.old.items ++ derived_text first.now lits.now hints.now) }
+    ensures literals { OnOk result (AreLiterals lits.now) }
+    ensures numbers { OnOk result (AreNumbers hints.now) }
 {
     out.extend_from_slice(first)?;
     push_literals(out, lits)?;
@@ -64,7 +71,8 @@ fn push_derived(
 }
 
 fn push_delete(out: &mut Vec<u8>, ids: &[u64]) -> Result<(), NoMemory>
-    ensures { OnOk result (out.new.items ≡ out.old.items ++ delete_text ids.now) }
+    ensures text { OnOk result (out.new.items ≡ out.old.items ++ delete_text ids.now) }
+    ensures numbers { OnOk result (AreNumbers ids.now) }
 {
     out.push(b'x')?;
     push_ids(out, ids)
@@ -72,22 +80,34 @@ fn push_delete(out: &mut Vec<u8>, ids: &[u64]) -> Result<(), NoMemory>
 
 // Appends literals, each behind a space, and an end mark.
 fn push_literals(out: &mut Vec<u8>, lits: &[Lit]) -> Result<(), NoMemory>
-    ensures { OnOk result (out.new.items ≡ out.old.items ++ literals_text lits.now) }
+    ensures text { OnOk result (out.new.items ≡ out.old.items ++ literals_text lits.now) }
+    ensures literals { OnOk result (AreLiterals lits.now) }
 {
     for lit in lits {
-        out.push(b' ')?;
-        push_literal(out, *lit)?;
+        push_behind_space(out, *lit)?;
     }
     out.extend_from_slice(b" 0")
 }
 
 // Appends ids, each behind a space, and an end mark.
 fn push_ids(out: &mut Vec<u8>, ids: &[u64]) -> Result<(), NoMemory>
-    ensures { OnOk result (out.new.items ≡ out.old.items ++ ids_text ids.now) }
+    ensures text { OnOk result (out.new.items ≡ out.old.items ++ ids_text ids.now) }
+    ensures numbers { OnOk result (AreNumbers ids.now) }
 {
     for id in ids {
         out.push(b' ')?;
         push_number(out, *id)?;
     }
     out.extend_from_slice(b" 0")
+}
+
+// Appends a literal behind a space.
+fn push_behind_space(out: &mut Vec<u8>, lit: Lit) -> Result<(), NoMemory>
+    ensures text { OnOk result (out.new.items ≡ out.old.items ++ spaced (literal_word lit)) }
+    ensures literal { OnOk result (IsWritable lit) }
+{
+    // Its variable is a number of 64 bits that is at least 1, as that of each literal that is read.
+    prove!(lit.var() > 0);
+    out.push(b' ')?;
+    push_literal(out, lit)
 }

@@ -1,4 +1,5 @@
--- An assignment of V variables is a list of V truth values; that of variable 1 stands first.
+-- An assignment of V variables is a list of V truth values; that of variable 1 stands first. Variables
+-- count from 1, as in DIMACS files, whose `v` lines write the same values as literals.
 use Rattle.std.specs.Prelude.{ℕ, ◌-◌, Bool, false, not, if◌then◌else◌, List, slice_index_or}
 use Rattle.kn_logic.specs.Literals.{Literal, places}
 

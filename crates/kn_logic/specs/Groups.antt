@@ -1,5 +1,6 @@
 -- A group of clauses that may hide a count: auxiliary variables, which stand in these clauses alone,
--- and a border of literals through which the clauses meet the rest of a formula.
+-- and a border of literals through which the clauses meet the rest of a formula. Reeves, Heule and
+-- Bryant (CAV 2024) guess such groups in formulas of clauses alone, and verify the count that each hides.
 use Rattle.std.specs.Prelude.{ℕ, ◌≡◌, ◌==◌, Bool, true, false, ◌||◌, List, map}
 use Rattle.std.specs.List.{list_any, AllByRecursion}
 use Rattle.std.specs.List.Sorted.{IsStrictlyIncreasing}

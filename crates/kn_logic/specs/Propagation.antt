@@ -1,5 +1,8 @@
 -- What a list of literals that are taken to be true makes of a constraint. A literal is true under
--- the list where it stands there, false where its negation does, and has no value else.
+-- the list where it stands there, false where its negation does, and has no value else. The rules are
+-- those of unit propagation, by which proofs of clauses are checked (reverse unit propagation). On a
+-- clause that names no variable twice they are the same; a klause forces by its count, as in the solver
+-- of Reeves, Heule and Bryant (CAV 2024).
 use Rattle.std.specs.Prelude.{ℕ, ◌≡◌, ◌<◌, ◌==◌, nat_lt, ◌⊎◌, ◌++◌, ◌∷◌, Bool, true, not, ◌&&◌, if◌then◌else◌, List, [], filter, Option, Some, None, option_and_then}
 use Rattle.std.specs.List.{list_any, AllByRecursion}
 use Rattle.kn_logic.specs.Literals.{Literal, negated, has, places}

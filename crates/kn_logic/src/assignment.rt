@@ -20,7 +20,8 @@ impl Model for Assignment {
 }
 
 impl Assignment {
-    /// The same value for each of so many variables.
+    /// The same value for each variable from 1 to `vars`, which is any number from 0. An error where
+    /// memory is wanting.
     pub fn new(alloc: Global, vars: u64, value: bool) -> Result<Assignment, NoMemory>
         ensures { IfOk result (λ m. m ≡ replicate vars value) }
     {

@@ -22,7 +22,8 @@ impl Model for Constraint {
 }
 
 impl Constraint {
-    /// At least `bound` of the literals.
+    /// At least `bound` places of the list are true. The bound is any number: at 0 this always holds,
+    /// above the number of places never.
     pub fn new(bound: u64, lits: Vec<Lit>) -> Constraint
         ensures { result ≡ klause bound lits.items }
     {
@@ -33,7 +34,7 @@ impl Constraint {
         }
     }
 
-    /// If `guard` is true, then at least `bound` of the literals.
+    /// If `guard` is true, then at least `bound` places of the list, where the bound is any number.
     pub fn guarded(guard: Lit, bound: u64, lits: Vec<Lit>) -> Constraint
         ensures { result ≡ guarded_klause guard bound lits.items }
     {
@@ -51,6 +52,7 @@ impl Constraint {
         self.guard
     }
 
+    /// The number of places that are to be true, from 0.
     pub fn bound(&self) -> u64
         ensures { result ≡ self.now.bound }
     {
@@ -71,7 +73,7 @@ impl Constraint {
         self.bound == 1 && self.guard.is_none()
     }
 
-    /// The same constraint once more.
+    /// The same constraint once more. An error where memory is wanting.
     pub fn copy(&self) -> Result<Constraint, NoMemory>
         ensures { IfOk result (λ c. c ≡ self.now) }
     {

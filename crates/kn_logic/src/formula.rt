@@ -25,7 +25,7 @@ impl Model for Formula {
 }
 
 impl Formula {
-    /// No constraint over this many variables.
+    /// No constraint yet over the variables from 1 to `vars`, which is any number from 0.
     pub fn new(alloc: Global, vars: u64) -> Formula
         ensures { result ≡ record { vars = vars; constraints = [] } }
     {
@@ -35,7 +35,8 @@ impl Formula {
         }
     }
 
-    /// Adds a constraint at the end.
+    /// Adds a constraint at the end. Its variables are from 1 to the number of variables, and a klause
+    /// names none twice. Where memory is wanting, an error, and the formula is as before.
     pub fn push(&mut self, c: Constraint) -> Result<(), NoMemory>
         requires { Fits self.old.vars c }
         ensures ok { OnOk result (self.new ≡ record self.old { constraints = self.old.constraints ++ c ∷ [] }) }
@@ -76,7 +77,7 @@ impl Formula {
         &self.constraints
     }
 
-    /// The same formula once more.
+    /// The same formula once more. An error where memory is wanting.
     pub fn copy(&self) -> Result<Formula, NoMemory>
         ensures { IfOk result (λ f. f ≡ self.now) }
     {

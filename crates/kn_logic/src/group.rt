@@ -24,7 +24,8 @@ impl Model for Group {
 }
 
 impl Group {
-    /// The auxiliary variables and the border ascend by variable and have none in common, each taken
+    /// A group of these parts, each of which may be empty. The auxiliary variables, counted from 1,
+    /// and the border ascend by variable and have none in common, each taken
     /// constraint is a clause, and each of its literals is one of an auxiliary variable or stands in
     /// the border.
     pub fn new(aux: Vec<u64>, taken: Vec<Constraint>, border: Vec<Lit>) -> Group
@@ -42,7 +43,7 @@ impl Group {
         &self.aux
     }
 
-    /// The clauses.
+    /// The clauses, in the order in which they were taken.
     pub fn taken(&self) -> &[Constraint]
         ensures value { result.now ≡ self.now.taken }
         ensures group { IsGroup self.now }

@@ -21,3 +21,6 @@ use std::alloc::AllocError;
 
 /// Want of memory.
 pub type NoMemory = AllocError;
+
+#[cfg(test)]
+mod tests;

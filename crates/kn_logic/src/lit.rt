@@ -40,6 +40,7 @@ impl Lit {
         self.var
     }
 
+    /// Whether this is the variable itself, and not its negation.
     pub fn is_positive(self) -> bool
         ensures { result ≡ self.positive }
     {

@@ -8,7 +8,7 @@ ghost use Rattle.kn_logic.specs.Formulas.{Satisfies};
 use crate::{Assignment, Constraint, Formula, Lit};
 
 /// Whether the constraint holds: at least as many of its places as its bound have a true literal, or it
-/// has a guard, which is false.
+/// has a guard, which is false. The assignment has all its variables.
 pub fn holds(c: &Constraint, m: &Assignment) -> bool
     requires { IsWithin (length m.now) c.now }
     ensures { IsTrue result ↔ Holds m.now c.now }
@@ -17,7 +17,7 @@ pub fn holds(c: &Constraint, m: &Assignment) -> bool
 }
 
 /// Whether the assignment is a model of the formula: it has exactly its variables, and each constraint
-/// holds.
+/// holds. It may have more variables than the formula, and is no model then, but never fewer.
 pub fn satisfies(f: &Formula, m: &Assignment) -> bool
     requires { f.now.vars ≤ length m.now }
     ensures { IsTrue result ↔ Satisfies m.now f.now }

@@ -1,6 +1,5 @@
-use Rattle.std.proofs.Common.{rules, ◌≡◌, Some, None}
+use Rattle.std.proofs.Common.{◌≡◌, Some, None}
 use Rattle.kn_text.specs.Lines.{words_of}
-use Rattle.kn_lines.specs.Lines.{SpellsWords, IsWellFormed}
 use Rattle.kn_lines.specs.Reading.{line_of}
 use Rattle.kn_lines.proofs.Spelling.{read_is_spelled, spelled_is_formed, unread_spells_none}
 use Rattle.kn_lines.proofs.reading.read_line.Goals as goal

@@ -1,0 +1,14 @@
+/// What comes next among the words of the constraints.
+#[derive(Clone, Copy, Debug, PartialEq, Eq)]
+pub enum Place {
+    /// A constraint begins, or the text ends.
+    Between,
+    /// The guard of a klause.
+    Guard,
+    /// The bound of a klause.
+    Bound,
+    /// A literal of a clause, or its end mark.
+    Clause,
+    /// A literal of a klause, or its end mark.
+    Klause,
+}
