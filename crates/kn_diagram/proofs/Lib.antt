@@ -1,0 +1,4 @@
+pub mod RowLemmas
+pub mod MemoLemmas
+pub mod PlaceLemmas
+pub mod NodeLemmas

@@ -1,0 +1,122 @@
+-- Nodes of a table.
+use Rattle.std.proofs.Common.{ℕ, ◌≡◌, ◌+◌, ◌<◌, ◌≤◌, ◌==◌, ◌⊎◌, inl, inr, Bool, true, false, if◌then◌else◌, List, [], ◌∷◌, length, slice_index, refl, sym, ap, subst, ◌∙◌, arith}
+use Rattle.std.specs.List.{IsDistinct}
+use Rattle.std.proofs.lemmas.Bool.{ne_eqb, eq-eqb, cond-true, cond-false, cond_both}
+use Rattle.kn_diagram.specs.Diagrams.{Row, Table, IsNode, row_in, value_in, function_of, depth_of, high_of, low_of, has_row, IsReduced, AreReduced, Stood, Joined, HasPlace, IsTable, IsKept, Keeps, high_at, low_at, IsSplit, IsMade}
+use Rattle.kn_diagram.proofs.RowLemmas.{row_in-older, row_in-newest, row_in-constant, value_in-older, value_in-newest, value_in-constant, branches}
+
+pub Keeps-self : (d : Table) → Keeps d d
+Keeps-self d = record { order = refl; nodes = λ node h. record { there = h; function = λ v. refl; depth = refl; high = refl; low = refl } }
+
+pub Keeps-along : (a b c : Table) → Keeps a b → Keeps b c → Keeps a c
+Keeps-along a b c k l = record {
+  order = l.order ∙ k.order;
+  nodes = λ node h.
+    let p = k.nodes node h in
+    let q = l.nodes node p.there in
+    record {
+      there = q.there;
+      function = λ v. q.function v ∙ p.function v;
+      depth = q.depth ∙ p.depth;
+      high = q.high ∙ p.high;
+      low = q.low ∙ p.low;
+    };
+}
+
+-- one more row changes no node
+pub Keeps-more : (order : List ℕ) (row : Row) (older : List Row) → Keeps (record { order = order; rows = older }) (record { order = order; rows = row ∷ older })
+unfolding function_of depth_of high_of low_of
+Keeps-more order row older = record {
+  order = refl;
+  nodes = λ node h. record {
+    there = omega arith;
+    function = λ v. value_in-older row older node (λ k. v (slice_index order k)) h;
+    depth = ap (λ r. r.depth) (row_in-older (length order) row older node h);
+    high = ap (λ r. r.high) (row_in-older (length order) row older node h);
+    low = ap (λ r. r.low) (row_in-older (length order) row older node h);
+  };
+}
+
+pub depth_of-constant : (d : Table) (node : ℕ) → node < 2 → depth_of d node ≡ length d.order
+unfolding depth_of
+depth_of-constant d node h = ap (λ r. r.depth) (row_in-constant (length d.order) d.rows node h)
+
+pub function_of-constant : (d : Table) (node : ℕ) (v : ℕ → Bool) → node < 2 → function_of d node v ≡ (node == 1)
+unfolding function_of
+function_of-constant d node v h = value_in-constant d.rows node (λ k. v (slice_index d.order k)) h
+
+-- a node of another variable, further down, is both halves of itself
+pub split-apart : (d : Table) (node depth : ℕ) → IsNode d node → depth < depth_of d node → IsSplit d node depth node node
+split-apart d node depth h a = record {
+  high_is = sym (cond-false (depth_of d node == depth) (high_of d node) node (ne_eqb (depth_of d node) depth (λ e. omega arith)));
+  low_is = sym (cond-false (depth_of d node == depth) (low_of d node) node (ne_eqb (depth_of d node) depth (λ e. omega arith)));
+  high_there = h;
+  low_there = h;
+  above_high = a;
+  above_low = a;
+  high_older = omega arith;
+  low_older = omega arith;
+  older = λ e. absurd (omega arith);
+  function = λ v. both (v (slice_index d.order depth)) (function_of d node v);
+}
+    where
+      both : (b x : Bool) → x ≡ (if b then x else x)
+      both true x = refl
+      both false x = refl
+
+pub split-own : (d : Table) (node : ℕ) → IsTable d → IsNode d node → 2 ≤ node → IsSplit d node (depth_of d node) (high_of d node) (low_of d node)
+unfolding function_of depth_of high_of low_of
+split-own d node ok h two =
+    let b = branches (length d.order) d.rows node ok.rows two h in
+    record {
+      high_is = sym (cond-true (depth_of d node == depth_of d node) (high_of d node) node (eq-eqb (depth_of d node) (depth_of d node) refl));
+      low_is = sym (cond-true (depth_of d node == depth_of d node) (low_of d node) node (eq-eqb (depth_of d node) (depth_of d node) refl));
+      high_there = omega (arith, b.high);
+      low_there = omega (arith, b.low);
+      above_high = b.above_high;
+      above_low = b.above_low;
+      high_older = omega (arith, b.high);
+      low_older = omega (arith, b.low);
+      older = λ e. (b.high, b.low);
+      function = λ v. b.value (λ k. v (slice_index d.order k));
+    }
+
+-- what making a row gives
+pub record Makes (order : List ℕ) (old new : List Row) (row : Row) (node : ℕ) : Type 0 where
+  pub table : IsTable (record { order = order; rows = new })
+  pub kept : Keeps (record { order = order; rows = old }) (record { order = order; rows = new })
+  pub made : IsMade (record { order = order; rows = old }) (record { order = order; rows = new }) row.depth row.high row.low node
+
+pub makes : (order : List ℕ) (old new : List Row) (row : Row) (place : ℕ) → IsTable (record { order = order; rows = old }) → HasPlace row old new place
+    → row.depth < length order → row.high < length old + 2 → row.low < length old + 2 → (row.high ≡ row.low → ⊥)
+    → row.depth < depth_of (record { order = order; rows = old }) row.high → row.depth < depth_of (record { order = order; rows = old }) row.low
+    → Makes order old new row (place + 2)
+unfolding function_of depth_of high_of low_of
+makes order old new row place ok (inl s) depth high low different above_high above_low =
+    let b = branches (length order) old (place + 2) ok.rows (omega arith) (omega (arith, s.within)) in
+    let is : row_in (length order) old (place + 2) ≡ row = s.there (length order) in
+    subst (λ rows. Makes order old rows row (place + 2)) (sym s.same) (record {
+      table = ok;
+      kept = Keeps-self (record { order = order; rows = old });
+      made = record {
+        there = omega (arith, s.within);
+        depth_is = let e : row.depth ≡ (row_in (length order) old (place + 2)).depth = ap (λ r. r.depth) (sym is) in omega arith;
+        function = λ v. b.value (λ k. v (slice_index order k))
+          ∙ ap (λ r. if v (slice_index order r.depth) then value_in old r.high (λ k. v (slice_index order k)) else value_in old r.low (λ k. v (slice_index order k))) is;
+      };
+    })
+makes order old new row place ok (inr j) depth high low different above_high above_low =
+    let n : place + 2 ≡ length old + 2 = omega (arith, j.last) in
+    let is : row_in (length order) (row ∷ old) (place + 2) ≡ row = row_in-newest (length order) row old (place + 2) n in
+    subst (λ rows. Makes order old rows row (place + 2)) (sym j.more) (record {
+      table = record {
+        order = ok.order;
+        rows = (record { depth = depth; high = high; low = low; above_high = above_high; above_low = above_low; different = different; once = j.once }, ok.rows);
+      };
+      kept = Keeps-more order row old;
+      made = record {
+        there = omega arith;
+        depth_is = let e : row.depth ≡ (row_in (length order) (row ∷ old) (place + 2)).depth = ap (λ r. r.depth) (sym is) in omega arith;
+        function = λ v. value_in-newest row old (place + 2) (λ k. v (slice_index order k)) n;
+      };
+    })
