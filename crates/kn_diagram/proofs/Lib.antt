@@ -2,3 +2,4 @@ pub mod RowLemmas
 pub mod MemoLemmas
 pub mod PlaceLemmas
 pub mod NodeLemmas
+pub mod JoinLemmas

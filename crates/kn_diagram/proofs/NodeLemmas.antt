@@ -120,3 +120,33 @@ makes order old new row place ok (inr j) depth high low different above_high abo
         function = λ v. value_in-newest row old (place + 2) (λ k. v (slice_index order k)) n;
       };
     })
+
+pub split-is : (d : Table) (node depth high low : ℕ) → IsTable d → IsNode d node → 2 ≤ node → depth_of d node ≡ depth → high_of d node ≡ high → low_of d node ≡ low
+    → IsSplit d node depth high low
+split-is d node depth high low ok h two e f g =
+    let at_depth = subst (λ x. IsSplit d node x (high_of d node) (low_of d node)) e (split-own d node ok h two) in
+    let at_high = subst (λ x. IsSplit d node depth x (low_of d node)) f at_depth in
+    subst (λ x. IsSplit d node depth high x) g at_high
+
+-- the same, of a table that is seen whole
+pub record MakesFrom (self new : Table) (depth high low node : ℕ) : Type 0 where
+  pub table : IsTable new
+  pub kept : Keeps self new
+  pub made : IsMade self new depth high low node
+
+pub makes-from : (order : List ℕ) (old new : List Row) (self : Table) (depth high low h l node place : ℕ) → record { order = order; rows = old } ≡ self
+    → IsTable (record { order = order; rows = old }) → HasPlace (record { depth = depth; high = h; low = l }) old new place → h ≡ high → l ≡ low → node ≡ place + 2
+    → (high ≡ low → ⊥) → IsNode self high → IsNode self low → depth < length self.order → depth < depth_of self high → depth < depth_of self low
+    → MakesFrom self (record { order = order; rows = new }) depth high low node
+makes-from order old new self depth high low h l node place view ok has e f n different =
+    let P : Table → Type 0 = λ d. IsNode d high → IsNode d low → depth < length d.order → depth < depth_of d high → depth < depth_of d low
+          → MakesFrom d (record { order = order; rows = new }) depth high low node in
+    let placed : HasPlace (record { depth = depth; high = high; low = low }) old new place =
+          subst (λ x. HasPlace (record { depth = depth; high = high; low = x }) old new place) f (subst (λ x. HasPlace (record { depth = depth; high = x; low = l }) old new place) e has) in
+    subst P view (λ high_there low_there within above_high above_low.
+      let m = makes order old new (record { depth = depth; high = high; low = low }) place ok placed within high_there low_there different above_high above_low in
+      record {
+        table = m.table;
+        kept = m.kept;
+        made = subst (λ x. IsMade (record { order = order; rows = old }) (record { order = order; rows = new }) depth high low x) (sym n) m.made;
+      })

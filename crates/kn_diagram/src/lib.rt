@@ -2,6 +2,7 @@
 #![tactic(auto)]
 
 mod diagrams;
+mod joint;
 mod memo;
 mod node;
 mod rows;

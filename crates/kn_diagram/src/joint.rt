@@ -1,0 +1,6 @@
+/// How two functions are joined.
+#[derive(Clone, Copy, Debug, PartialEq, Eq)]
+pub(crate) enum Joint {
+    And,
+    Or,
+}
