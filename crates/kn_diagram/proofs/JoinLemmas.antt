@@ -205,3 +205,121 @@ Gains-open join d0 d1 d2 d3 m0 m1 m2 f g depth fh fl gh gl h l w at nf ng sf sg 
           ∙ if-join join (v x) (function_of d0 fh v) (function_of d0 fl v) (function_of d0 gh v) (function_of d0 gl v)
           ∙ (λ i. join (sym (sf.function v) i) (sym (sg.function v) i))
           ∙ (λ i. join (sym (ff.function v) i) (sym (gg.function v) i))
+
+above-joined : (join : Bool → Bool → Bool) (d0 d1 : Table) (before after : List Met) (f g depth fh gh h : ℕ) → depth < depth_of d0 fh → depth < depth_of d0 gh
+    → IsNode d0 fh → IsNode d0 gh → Keeps d0 d1 → Gains join d1 before after fh gh h → depth < depth_of d1 h
+above-joined join d0 d1 before after f g depth fh gh h a b nf ng k r =
+    omega (arith, (k.nodes fh nf).depth, (k.nodes gh ng).depth, r.right.depth_is)
+
+some-if : (b : Bool) (x w : ℕ) (rest : Option ℕ) → (if b then Some x else rest) ≡ Some w → ((b ≡ true) × (x ≡ w)) ⊎ ((b ≡ false) × (rest ≡ Some w))
+some-if true x w rest e = let h : Some x ≡ Some w = e in inl (refl, cc)
+some-if false x w rest e = inr (refl, e)
+
+none-if : (b : Bool) (x : ℕ) (rest : Option ℕ) → (if b then Some x else rest) ≡ None → (b ≡ false) × (rest ≡ None)
+none-if true x rest e = let h : Some x ≡ None = e in absurd (cc)
+none-if false x rest e = (refl, e)
+
+-- a connective with a constant, or with one value twice
+one-side : (joint : Joint) (a b : Bool) → (a ≡ b) ⊎ ((a ≡ (absorbing joint == 1)) ⊎ (b ≡ (neutral joint == 1))) → connective joint a b ≡ a
+one-side And true b (inl e) = sym e
+one-side And false b h = refl
+one-side And true b (inr (inl e)) = absurd (true≢false e)
+one-side And true b (inr (inr e)) = e
+one-side Or true b h = refl
+one-side Or false b (inl e) = sym e
+one-side Or false b (inr (inl e)) = absurd (true≢false (sym e))
+one-side Or false b (inr (inr e)) = e
+
+other-side : (joint : Joint) (a b : Bool) → (a ≡ (neutral joint == 1)) ⊎ (b ≡ (absorbing joint == 1)) → connective joint a b ≡ b
+other-side And true b h = refl
+other-side And false b (inl e) = absurd (true≢false (sym e))
+other-side And false b (inr e) = sym e
+other-side Or false b h = refl
+other-side Or true b (inl e) = absurd (true≢false e)
+other-side Or true b (inr e) = sym e
+
+constant : (joint : Joint) → (absorbing joint < 2) × (neutral joint < 2)
+constant And = (omega arith, omega arith)
+constant Or = (omega arith, omega arith)
+
+-- what is decided is right, and not open
+pub decided-explained : (joint : Joint) (d : Table) (before : List Met) (f g w : ℕ) → IsNode d f → IsNode d g → decided joint f g ≡ Some w
+    → IsExplained (connective joint) d before (record { u = f; v = g; w = w })
+decided-explained joint d before f g w nf ng e =
+    by (some-if ((f == g) || (f == absorbing joint) || (g == neutral joint)) f w (if (f == neutral joint) || (g == absorbing joint) then Some g else None) e)
+    where
+      value : (node at : ℕ) (v : ℕ → Bool) → at < 2 → (node == at) ≡ true → function_of d node v ≡ (at == 1)
+      value node at v low t = ap (λ n. function_of d n v) (eqb-true node at t) ∙ function_of-constant d at v low
+      closed : (f ≡ g) ⊎ ((f < 2) ⊎ (g < 2)) → (w ≡ f) ⊎ (w ≡ g) → ((v : ℕ → Bool) → function_of d w v ≡ connective joint (function_of d f v) (function_of d g v))
+          → IsExplained (connective joint) d before (record { u = f; v = g; w = w })
+      closed why which means = record {
+        right = record {
+          u_there = nf;
+          v_there = ng;
+          w_there = there which;
+          depth_is = deep which;
+          function = means;
+        };
+        highs = λ a b c. absurd (never why a b c);
+        lows = λ a b c. absurd (never why a b c);
+      }
+        where
+          never : (f ≡ g) ⊎ ((f < 2) ⊎ (g < 2)) → (f ≡ g → ⊥) → 2 ≤ f → 2 ≤ g → ⊥
+          never (inl x) a b c = a x
+          never (inr (inl x)) a b c = omega arith
+          never (inr (inr x)) a b c = omega arith
+          there : (w ≡ f) ⊎ (w ≡ g) → IsNode d w
+          there (inl x) = omega (arith, nf)
+          there (inr x) = omega (arith, ng)
+          deep : (w ≡ f) ⊎ (w ≡ g) → min (depth_of d f) (depth_of d g) ≤ depth_of d w
+          deep (inl x) = let y = ap (depth_of d) x in omega arith
+          deep (inr x) = let y = ap (depth_of d) x in omega arith
+      by : ((((f == g) || (f == absorbing joint) || (g == neutral joint)) ≡ true) × (f ≡ w))
+          ⊎ ((((f == g) || (f == absorbing joint) || (g == neutral joint)) ≡ false) × ((if (f == neutral joint) || (g == absorbing joint) then Some g else None) ≡ Some w))
+          → IsExplained (connective joint) d before (record { u = f; v = g; w = w })
+      by (inl (t, x)) = first (or_cases ((f == g) || (f == absorbing joint)) (g == neutral joint) t)
+        where
+          means : ((v : ℕ → Bool) → (function_of d f v ≡ function_of d g v) ⊎ ((function_of d f v ≡ (absorbing joint == 1)) ⊎ (function_of d g v ≡ (neutral joint == 1))))
+              → (v : ℕ → Bool) → function_of d w v ≡ connective joint (function_of d f v) (function_of d g v)
+          means h v = ap (λ n. function_of d n v) (sym x) ∙ sym (one-side joint (function_of d f v) (function_of d g v) (h v))
+          second : ((f == g) ≡ true) ⊎ ((f == absorbing joint) ≡ true) → IsExplained (connective joint) d before (record { u = f; v = g; w = w })
+          second (inl s) = closed (inl (eqb-true f g s)) (inl (sym x)) (means (λ v. inl (ap (λ n. function_of d n v) (eqb-true f g s))))
+          second (inr s) = let q = eqb-true f (absorbing joint) s in
+              closed (inr (inl (omega (arith, q, (constant joint).0)))) (inl (sym x)) (means (λ v. inr (inl (value f (absorbing joint) v (constant joint).0 s))))
+          first : (((f == g) || (f == absorbing joint)) ≡ true) ⊎ ((g == neutral joint) ≡ true) → IsExplained (connective joint) d before (record { u = f; v = g; w = w })
+          first (inl s) = second (or_cases (f == g) (f == absorbing joint) s)
+          first (inr s) = let q = eqb-true g (neutral joint) s in
+              closed (inr (inr (omega (arith, q, (constant joint).1)))) (inl (sym x)) (means (λ v. inr (inr (value g (neutral joint) v (constant joint).1 s))))
+      by (inr (t, y)) = third (some-if ((f == neutral joint) || (g == absorbing joint)) g w None y)
+        where
+          means : g ≡ w → ((v : ℕ → Bool) → (function_of d f v ≡ (neutral joint == 1)) ⊎ (function_of d g v ≡ (absorbing joint == 1)))
+              → (v : ℕ → Bool) → function_of d w v ≡ connective joint (function_of d f v) (function_of d g v)
+          means x h v = ap (λ n. function_of d n v) (sym x) ∙ sym (other-side joint (function_of d f v) (function_of d g v) (h v))
+          fourth : g ≡ w → ((f == neutral joint) ≡ true) ⊎ ((g == absorbing joint) ≡ true) → IsExplained (connective joint) d before (record { u = f; v = g; w = w })
+          fourth x (inl s) = let q = eqb-true f (neutral joint) s in
+              closed (inr (inl (omega (arith, q, (constant joint).1)))) (inr (sym x)) (means x (λ v. inl (value f (neutral joint) v (constant joint).1 s)))
+          fourth x (inr s) = let q = eqb-true g (absorbing joint) s in
+              closed (inr (inr (omega (arith, q, (constant joint).0)))) (inr (sym x)) (means x (λ v. inr (value g (absorbing joint) v (constant joint).0 s)))
+          third : ((((f == neutral joint) || (g == absorbing joint)) ≡ true) × (g ≡ w)) ⊎ ((((f == neutral joint) || (g == absorbing joint)) ≡ false) × (None ≡ Some w))
+              → IsExplained (connective joint) d before (record { u = f; v = g; w = w })
+          third (inl (s, x)) = fourth x (or_cases (f == neutral joint) (g == absorbing joint) s)
+          third (inr (s, x)) = absurd (cc)
+
+-- what is not decided is open
+pub decided-none : (joint : Joint) (f g : ℕ) → decided joint f g ≡ None → (2 ≤ f) × (2 ≤ g)
+decided-none joint f g e =
+    let a = none-if ((f == g) || (f == absorbing joint) || (g == neutral joint)) f (if (f == neutral joint) || (g == absorbing joint) then Some g else None) e in
+    let b = none-if ((f == neutral joint) || (g == absorbing joint)) g None a.1 in
+    let p = or_parts ((f == g) || (f == absorbing joint)) (g == neutral joint) a.0 in
+    let q = or_parts (f == g) (f == absorbing joint) p.0 in
+    let r = or_parts (f == neutral joint) (g == absorbing joint) b.0 in
+    apart joint (eqb-false f (absorbing joint) q.1) (eqb-false f (neutral joint) r.0) (eqb-false g (absorbing joint) r.1) (eqb-false g (neutral joint) p.1)
+    where
+      apart : (j : Joint) → (f ≡ absorbing j → ⊥) → (f ≡ neutral j → ⊥) → (g ≡ absorbing j → ⊥) → (g ≡ neutral j → ⊥) → (2 ≤ f) × (2 ≤ g)
+      apart And a b c k = (omega arith, omega arith)
+      apart Or a b c k = (omega arith, omega arith)
+
+pub Gains-decided : (joint : Joint) (d : Table) (ms : List Met) (f g w : ℕ) → IsNode d f → IsNode d g → AreExplained (connective joint) d [] ms → found ms f g ≡ None
+    → decided joint f g ≡ Some w → Gains (connective joint) d ms (ms ++ record { u = f; v = g; w = w } ∷ []) f g w
+Gains-decided joint d ms f g w nf ng h n e =
+    Gains-noted (connective joint) d ms ms f g w h (decided-explained joint d ms f g w nf ng e) n (λ p q a. a) (λ p q a b. b)

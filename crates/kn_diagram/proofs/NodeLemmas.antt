@@ -150,3 +150,8 @@ makes-from order old new self depth high low h l node place view ok has e f n di
         kept = m.kept;
         made = subst (λ x. IsMade (record { order = order; rows = old }) (record { order = order; rows = new }) depth high low x) (sym n) m.made;
       })
+
+-- a node that is no constant has a variable
+pub depth_of-branch : (d : Table) (node : ℕ) → IsTable d → IsNode d node → 2 ≤ node → depth_of d node < length d.order
+unfolding depth_of
+depth_of-branch d node ok h two = (branches (length d.order) d.rows node ok.rows two h).depth

@@ -1,8 +1,11 @@
 ghost use Rattle.std.specs.Prelude.{ℕ, ◌≡◌, ◌+◌, ◌<◌, ◌≤◌, Bool, [], length, slice_index, nat_eq, if◌then◌else◌, OnOk, OnErr, IfOk, IfSome, is_none, nat_lt};
 ghost use Rattle.std.specs.List.{IsDistinct};
+ghost use Rattle.kn_diagram.specs.Traces.{connective, AreExplained, Gains};
 ghost use Rattle.kn_diagram.specs.Diagrams.{IsNode, function_of, depth_of, high_of, low_of, IsSplit, IsMade, Keeps};
 
 use crate::Node;
+use crate::joint::{Joint, decided};
+use crate::memo::Memo;
 use crate::rows::Rows;
 use kn_logic::NoMemory;
 use std::alloc::{AllocError, Global};
@@ -43,7 +46,8 @@ impl Diagrams {
     // How far down the order the variable of a node stands; a constant stands below all.
     fn depth(&self, node: Node) -> usize
         requires { IsNode self.now node }
-        ensures { result ≡ depth_of self.now node }
+        ensures value { result ≡ depth_of self.now node }
+        ensures branch { 2 ≤ node → result < length self.now.order }
     {
         let number = node.number();
         if number < 2 {
@@ -90,5 +94,32 @@ impl Diagrams {
         }
         let place = self.rows.place_of(depth, high.number(), low.number())?;
         Ok(Node::new(place + 2))
+    }
+
+    // The node for both functions joined, by way of the results that were noted before.
+    fn join(&mut self, joint: Joint, f: Node, g: Node, memo: &mut Memo) -> Result<Node, NoMemory>
+        requires f_there { IsNode self.old f }
+        requires g_there { IsNode self.old g }
+        requires explained { AreExplained (connective joint) self.old [] memo.old }
+        ensures kept { Keeps self.old self.new }
+        ensures joined { IfOk result (λ w. Gains (connective joint) self.new memo.old memo.new f g w) }
+    {
+        if let Some(w) = memo.get(f, g) {
+            return Ok(w);
+        }
+        if let Some(w) = decided(joint, f, g) {
+            memo.insert(f, g, w)?;
+            return Ok(w);
+        }
+        let f_depth = self.depth(f);
+        let g_depth = self.depth(g);
+        let depth = f_depth.min(g_depth);
+        let (f_high, f_low) = self.halves(f, depth);
+        let (g_high, g_low) = self.halves(g, depth);
+        let high = self.join(joint, f_high, g_high, memo)?;
+        let low = self.join(joint, f_low, g_low, memo)?;
+        let w = self.make_at(depth, high, low)?;
+        memo.insert(f, g, w)?;
+        Ok(w)
     }
 }

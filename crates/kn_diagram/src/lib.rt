@@ -2,6 +2,7 @@
 #![tactic(auto)]
 
 mod diagrams;
+mod error;
 mod joint;
 mod memo;
 mod node;
@@ -9,5 +10,6 @@ mod rows;
 mod trace;
 
 pub use diagrams::Diagrams;
+pub use error::DiagramError;
 pub use node::Node;
 pub use trace::{Met, Trace};
