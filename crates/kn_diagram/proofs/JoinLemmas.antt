@@ -7,7 +7,7 @@ use Rattle.kn_diagram.specs.declared.trace.Met.{Met}
 use Rattle.kn_diagram.specs.declared.joint.Joint.{Joint}
 use Rattle.kn_diagram.specs.declared.joint.Joint.TheVariants.{And, Or}
 use Rattle.kn_diagram.specs.Diagrams.{Table, IsNode, function_of, depth_of, high_of, low_of, high_at, low_at, IsKept, Keeps, IsSplit, IsMade}
-use Rattle.kn_diagram.specs.Traces.{found, has_pair, connective, absorbing, neutral, decided, IsRight, IsExplained, AreExplained, Gains}
+use Rattle.kn_diagram.specs.Traces.{found, has_pair, connective, absorbing, neutral, decided, IsRight, IsExplained, AreExplained, Gains, Explains}
 use Rattle.kn_diagram.proofs.NodeLemmas.{Keeps-self, Keeps-along, depth_of-constant, function_of-constant}
 
 -- Entries stay right and explained while nodes come.
@@ -206,11 +206,6 @@ Gains-open join d0 d1 d2 d3 m0 m1 m2 f g depth fh fl gh gl h l w at nf ng sf sg 
           ∙ (λ i. join (sym (sf.function v) i) (sym (sg.function v) i))
           ∙ (λ i. join (sym (ff.function v) i) (sym (gg.function v) i))
 
-above-joined : (join : Bool → Bool → Bool) (d0 d1 : Table) (before after : List Met) (f g depth fh gh h : ℕ) → depth < depth_of d0 fh → depth < depth_of d0 gh
-    → IsNode d0 fh → IsNode d0 gh → Keeps d0 d1 → Gains join d1 before after fh gh h → depth < depth_of d1 h
-above-joined join d0 d1 before after f g depth fh gh h a b nf ng k r =
-    omega (arith, (k.nodes fh nf).depth, (k.nodes gh ng).depth, r.right.depth_is)
-
 some-if : (b : Bool) (x w : ℕ) (rest : Option ℕ) → (if b then Some x else rest) ≡ Some w → ((b ≡ true) × (x ≡ w)) ⊎ ((b ≡ false) × (rest ≡ Some w))
 some-if true x w rest e = let h : Some x ≡ Some w = e in inl (refl, cc)
 some-if false x w rest e = inr (refl, e)
@@ -323,3 +318,14 @@ pub Gains-decided : (joint : Joint) (d : Table) (ms : List Met) (f g w : ℕ) �
     → decided joint f g ≡ Some w → Gains (connective joint) d ms (ms ++ record { u = f; v = g; w = w } ∷ []) f g w
 Gains-decided joint d ms f g w nf ng h n e =
     Gains-noted (connective joint) d ms ms f g w h (decided-explained joint d ms f g w nf ng e) n (λ p q a. a) (λ p q a b. b)
+
+-- the entries of a call that began with none explain their last
+pub Explains-gained : (join : Bool → Bool → Bool) (d : Table) (after old new : List Met) (f g w : ℕ) → Gains join d [] after f g w → new ≡ old ++ after
+    → Explains join d old new (record { u = f; v = g; w = w })
+Explains-gained join d after old new f g w gain e =
+    let last = gain.last refl in
+    record {
+      earlier = last.0;
+      grown = e ∙ ap (λ x. old ++ x) last.1;
+      explained = subst (AreExplained join d []) last.1 gain.explained;
+    }

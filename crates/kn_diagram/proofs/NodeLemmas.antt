@@ -1,9 +1,9 @@
 -- Nodes of a table.
-use Rattle.std.proofs.Common.{ℕ, ◌≡◌, ◌+◌, ◌<◌, ◌≤◌, ◌==◌, ◌⊎◌, inl, inr, Bool, true, false, if◌then◌else◌, List, [], ◌∷◌, length, slice_index, refl, sym, ap, subst, ◌∙◌, arith}
-use Rattle.std.specs.List.{IsDistinct}
-use Rattle.std.proofs.lemmas.Bool.{ne_eqb, eq-eqb, cond-true, cond-false, cond_both}
-use Rattle.kn_diagram.specs.Diagrams.{Row, Table, IsNode, row_in, value_in, function_of, depth_of, high_of, low_of, has_row, IsReduced, AreReduced, Stood, Joined, HasPlace, IsTable, IsKept, Keeps, high_at, low_at, IsSplit, IsMade}
-use Rattle.kn_diagram.proofs.RowLemmas.{row_in-older, row_in-newest, row_in-constant, value_in-older, value_in-newest, value_in-constant, branches}
+use Rattle.std.proofs.Common.{ℕ, ◌≡◌, ◌+◌, ◌<◌, ◌≤◌, ◌==◌, ◌⊎◌, inl, inr, Bool, true, false, if◌then◌else◌, List, [], ◌∷◌, length, slice_index, nat_eq, zero, suc, refl, sym, ap, subst, ◌∙◌, arith}
+use Rattle.std.specs.List.{IsDistinct, AllByRecursion}
+use Rattle.std.proofs.lemmas.Bool.{ne_eqb, eq-eqb, eqb-true, eqb-false, cond-true, cond-false}
+use Rattle.kn_diagram.specs.Diagrams.{Row, Table, IsNode, row_in, value_in, function_of, depth_of, high_of, low_of, has_row, IsReduced, AreReduced, Stood, Joined, HasPlace, IsTable, IsKept, Keeps, high_at, low_at, IsSplit, IsMade, depth_in, IsBranch, IsCanonical}
+use Rattle.kn_diagram.proofs.RowLemmas.{row_in-older, row_in-newest, row_in-constant, value_in-older, value_in-newest, value_in-constant, branches, value_in-below, canonical_in}
 
 pub Keeps-self : (d : Table) → Keeps d d
 Keeps-self d = record { order = refl; nodes = λ node h. record { there = h; function = λ v. refl; depth = refl; high = refl; low = refl } }
@@ -155,3 +155,67 @@ makes-from order old new self depth high low h l node place view ok has e f n di
 pub depth_of-branch : (d : Table) (node : ℕ) → IsTable d → IsNode d node → 2 ≤ node → depth_of d node < length d.order
 unfolding depth_of
 depth_of-branch d node ok h two = (branches (length d.order) d.rows node ok.rows two h).depth
+
+depth_in-slice_index : (order : List ℕ) (depth : ℕ) → IsDistinct nat_eq order → depth < length order → depth_in order (slice_index order depth) ≡ depth
+unfolding IsDistinct
+depth_in-slice_index [] depth d h = absurd (omega arith)
+depth_in-slice_index (x ∷ xs) zero d h = cond-true (x == x) 0 (1 + depth_in xs x) (eq-eqb x x refl)
+depth_in-slice_index (x ∷ xs) (suc depth) d h =
+    let s : depth < length xs = omega arith in
+    let y = slice_index xs depth in
+    let other : (x == y) ≡ false = apart xs depth d.0 s in
+    let turned : (y == x) ≡ false = ne_eqb y x (λ e. eqb-false x y other (sym e)) in
+    cond-false (y == x) 0 (1 + depth_in xs y) turned ∙ ap (λ n. 1 + n) (depth_in-slice_index xs depth d.1 s) ∙ one_more depth
+    where
+      one_more : (n : ℕ) → 1 + n ≡ suc n
+      one_more n = omega arith
+      apart : (ys : List ℕ) (k : ℕ) → AllByRecursion (λ y. (x == y) ≡ false) ys → k < length ys → (x == slice_index ys k) ≡ false
+      apart [] k a l = absurd (omega arith)
+      apart (y ∷ ys) zero a l = a.0
+      apart (y ∷ ys) (suc k) a l = apart ys k a.1 (omega arith)
+
+pub slice_index-depth_in : (order : List ℕ) (variable : ℕ) → depth_in order variable < length order → slice_index order (depth_in order variable) ≡ variable
+slice_index-depth_in [] variable h = absurd (omega arith)
+slice_index-depth_in (x ∷ xs) variable h = by (variable == x) refl (slice_index-depth_in xs variable)
+    where
+      by : (b : Bool) → (variable == x) ≡ b → (depth_in xs variable < length xs → slice_index xs (depth_in xs variable) ≡ variable)
+          → slice_index (x ∷ xs) (depth_in (x ∷ xs) variable) ≡ variable
+      by true t rest = ap (slice_index (x ∷ xs)) (cond-true (variable == x) 0 (1 + depth_in xs variable) t) ∙ sym (eqb-true variable x t)
+      by false t rest =
+          let e : depth_in (x ∷ xs) variable ≡ suc (depth_in xs variable) = cond-false (variable == x) 0 (1 + depth_in xs variable) t ∙ omega arith in
+          ap (slice_index (x ∷ xs)) e ∙ rest (omega arith)
+
+pub branch-is : (d : Table) (node variable high low : ℕ) → IsTable d → IsNode d node → 2 ≤ node → variable ≡ slice_index d.order (depth_of d node)
+    → high ≡ high_of d node → low ≡ low_of d node → IsBranch d node variable high low
+unfolding function_of depth_of high_of low_of
+branch-is d node variable high low ok h two x e f =
+    let b = branches (length d.order) d.rows node ok.rows two h in
+    let m : IsBranch d node (slice_index d.order (depth_of d node)) (high_of d node) (low_of d node) = record {
+      depth_is = depth_in-slice_index d.order (depth_of d node) ok.order b.depth;
+      variable_is = refl;
+      within = b.depth;
+      high_is = refl;
+      low_is = refl;
+      high_there = omega (arith, b.high);
+      low_there = omega (arith, b.low);
+      above_high = b.above_high;
+      above_low = b.above_low;
+      high_older = b.high;
+      low_older = b.low;
+      different = b.different;
+      function = λ v. b.value (λ k. v (slice_index d.order k));
+    } in
+    subst (λ z. IsBranch d node variable high z) (sym f)
+      (subst (λ z. IsBranch d node variable z (low_of d node)) (sym e)
+        (subst (λ z. IsBranch d node z (high_of d node) (low_of d node)) (sym x) m))
+
+-- Two nodes with one function are one.
+pub canonical : (d : Table) → IsTable d → IsCanonical d
+unfolding function_of
+canonical d ok f g hf hg same =
+    canonical_in (length d.order) d.rows f g ok.rows hf hg (λ t.
+      let v : ℕ → Bool = λ x. t (depth_in d.order x) in
+      let at : (k : ℕ) → k < length d.order → t k ≡ v (slice_index d.order k) = λ k h. sym (ap t (depth_in-slice_index d.order k ok.order h)) in
+      value_in-below (length d.order) d.rows f t (λ k. v (slice_index d.order k)) ok.rows hf (λ k a b. at k b)
+      ∙ same v
+      ∙ sym (value_in-below (length d.order) d.rows g t (λ k. v (slice_index d.order k)) ok.rows hg (λ k a b. at k b)))

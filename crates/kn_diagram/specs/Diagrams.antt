@@ -127,3 +127,29 @@ pub record IsMade (old new : Table) (depth high low node : ℕ) : Type 0 where
   pub there : IsNode new node
   pub depth_is : depth ≤ depth_of new node
   pub function : (v : ℕ → Bool) → function_of new node v ≡ (if v (slice_index old.order depth) then function_of old high v else function_of old low v)
+
+-- how far down the order a variable stands; the length of the order where it is not in it
+abbrev pub depth_in : List ℕ → ℕ → ℕ
+depth_in [] variable = 0
+depth_in (x ∷ xs) variable = if variable == x then 0 else 1 + depth_in xs variable
+
+-- A node that is no constant: its variable, and its nodes for "true" and "false", which differ and are
+-- of variables further down.
+pub record IsBranch (d : Table) (node variable high low : ℕ) : Type 0 where
+  pub depth_is : depth_in d.order variable ≡ depth_of d node
+  pub variable_is : variable ≡ slice_index d.order (depth_of d node)
+  pub within : depth_of d node < length d.order
+  pub high_is : high ≡ high_of d node
+  pub low_is : low ≡ low_of d node
+  pub high_there : IsNode d high
+  pub low_there : IsNode d low
+  pub above_high : depth_of d node < depth_of d high
+  pub above_low : depth_of d node < depth_of d low
+  pub high_older : high < node
+  pub low_older : low < node
+  pub different : high ≡ low → ⊥
+  pub function : (v : ℕ → Bool) → function_of d node v ≡ (if v variable then function_of d high v else function_of d low v)
+
+-- Two nodes are one where their functions are.
+abbrev pub IsCanonical : Table → Type 0
+IsCanonical d = (f g : ℕ) → IsNode d f → IsNode d g → ((v : ℕ → Bool) → function_of d f v ≡ function_of d g v) → f ≡ g

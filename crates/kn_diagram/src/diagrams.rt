@@ -1,13 +1,14 @@
-ghost use Rattle.std.specs.Prelude.{ℕ, ◌≡◌, ◌+◌, ◌<◌, ◌≤◌, Bool, [], length, slice_index, nat_eq, if◌then◌else◌, OnOk, OnErr, IfOk, IfSome, is_none, nat_lt};
+ghost use Rattle.std.specs.Prelude.{ℕ, ◌≡◌, ◌+◌, ◌<◌, ◌≤◌, ◌&&◌, ◌||◌, ◌↔◌, min, Bool, true, false, [], length, slice_index, nat_eq, if◌then◌else◌, OnOk, OnErr, IfOk, IfSome, is_none, nat_lt};
 ghost use Rattle.std.specs.List.{IsDistinct};
-ghost use Rattle.kn_diagram.specs.Traces.{connective, AreExplained, Gains};
-ghost use Rattle.kn_diagram.specs.Diagrams.{IsNode, function_of, depth_of, high_of, low_of, IsSplit, IsMade, Keeps};
+ghost use Rattle.kn_logic.specs.Assignments.{value_of};
+ghost use Rattle.kn_diagram.specs.Traces.{connective, AreExplained, Gains, IsRight, Explains};
+ghost use Rattle.kn_diagram.specs.Diagrams.{IsNode, function_of, depth_of, depth_in, IsBranch, IsCanonical, IsSplit, IsMade, Keeps};
 
-use crate::Node;
+use crate::{DiagramError, Node, Trace};
 use crate::joint::{Joint, decided};
 use crate::memo::Memo;
 use crate::rows::Rows;
-use kn_logic::NoMemory;
+use kn_logic::{Assignment, NoMemory};
 use std::alloc::{AllocError, Global};
 use std::marker::Model;
 
@@ -41,6 +42,94 @@ impl Diagrams {
             order: Vec::from_slice(alloc, order)?,
             rows: Rows::new(alloc),
         })
+    }
+
+    /// "If `var` then `high`, else `low`."
+    pub fn make(&mut self, var: u64, high: Node, low: Node) -> Result<Node, NoMemory>
+        requires high_there { IsNode self.old high }
+        requires low_there { IsNode self.old low }
+        requires within { depth_in self.old.order var < length self.old.order }
+        requires above_high { depth_in self.old.order var < depth_of self.old high }
+        requires above_low { depth_in self.old.order var < depth_of self.old low }
+        ensures kept { Keeps self.old self.new }
+        ensures node { IfOk result (λ w. IsNode self.new w) }
+        ensures depth { IfOk result (λ w. depth_in self.old.order var ≤ depth_of self.new w) }
+        ensures function {
+            IfOk result (λ w. (v : ℕ → Bool) → function_of self.new w v ≡ (if v var then function_of self.old high v else function_of self.old low v))
+        }
+    {
+        let depth = depth_in(&self.order, var);
+        self.make_at(depth, high, low)
+    }
+
+    /// The conjunction of both functions.
+    pub fn and(&mut self, f: Node, g: Node, trace: &mut Trace) -> Result<Node, DiagramError>
+        requires f_there { IsNode self.old f }
+        requires g_there { IsNode self.old g }
+        ensures kept { Keeps self.old self.new }
+        ensures node { IfOk result (λ w. IsNode self.new w) }
+        ensures depth { IfOk result (λ w. min (depth_of self.old f) (depth_of self.old g) ≤ depth_of self.new w) }
+        ensures function {
+            IfOk result (λ w. (v : ℕ → Bool) → function_of self.new w v ≡ (function_of self.old f v && function_of self.old g v))
+        }
+        ensures traced { IfOk result (λ w. Explains (λ a b. a && b) self.new trace.old trace.new (record { u = f; v = g; w = w })) }
+        ensures err { OnErr result (trace.new ≡ trace.old) }
+    {
+        self.traced(Joint::And, f, g, trace)
+    }
+
+    /// The disjunction of both functions.
+    pub fn or(&mut self, f: Node, g: Node, trace: &mut Trace) -> Result<Node, DiagramError>
+        requires f_there { IsNode self.old f }
+        requires g_there { IsNode self.old g }
+        ensures kept { Keeps self.old self.new }
+        ensures node { IfOk result (λ w. IsNode self.new w) }
+        ensures depth { IfOk result (λ w. min (depth_of self.old f) (depth_of self.old g) ≤ depth_of self.new w) }
+        ensures function {
+            IfOk result (λ w. (v : ℕ → Bool) → function_of self.new w v ≡ (function_of self.old f v || function_of self.old g v))
+        }
+        ensures traced { IfOk result (λ w. Explains (λ a b. a || b) self.new trace.old trace.new (record { u = f; v = g; w = w })) }
+        ensures err { OnErr result (trace.new ≡ trace.old) }
+    {
+        self.traced(Joint::Or, f, g, trace)
+    }
+
+    /// The variable of a node, and its nodes for where the variable is true and where it is false;
+    /// `None` exactly for the two constants.
+    pub fn parts(&self, f: Node) -> Option<(u64, Node, Node)>
+        requires { IsNode self.now f }
+        ensures constant { is_none result ≡ nat_lt f 2 }
+        ensures branch { IfSome result (λ p. IsBranch self.now f p.0 p.1 p.2) }
+    {
+        let number = f.number();
+        if number < 2 {
+            return None;
+        }
+        let (depth, high, low) = self.rows.row(number);
+        Some((self.order[depth], Node::new(high), Node::new(low)))
+    }
+
+    /// The value of a function under an assignment, which has all variables of the order.
+    pub fn value(&self, f: Node, m: &Assignment) -> bool
+        requires there { IsNode self.now f }
+        requires known { (depth : ℕ) → depth < length self.now.order → (1 ≤ slice_index self.now.order depth) × (slice_index self.now.order depth ≤ length m.now) }
+        ensures { result ≡ function_of self.now f (value_of m.now) }
+    {
+        let mut node = f;
+        while let Some((var, high, low)) = self.parts(node) {
+            node = if m.value(var) { high } else { low };
+        }
+        node == Node::TRUE
+    }
+
+    /// How many nodes there are, with the two constants.
+    pub fn nodes(&self) -> u64
+        ensures count { (node : ℕ) → IsNode self.now node ↔ (node < result) }
+        ensures canonical { IsCanonical self.now }
+        ensures no { (v : ℕ → Bool) → function_of self.now 0 v ≡ false }
+        ensures yes { (v : ℕ → Bool) → function_of self.now 1 v ≡ true }
+    {
+        self.rows.len() as u64 + 2
     }
 
     // How far down the order the variable of a node stands; a constant stands below all.
@@ -122,4 +211,37 @@ impl Diagrams {
         memo.insert(f, g, w)?;
         Ok(w)
     }
+
+    // The node for both functions joined. The trace takes the pairs that were met.
+    fn traced(
+        &mut self,
+        joint: Joint,
+        f: Node,
+        g: Node,
+        trace: &mut Trace,
+    ) -> Result<Node, DiagramError>
+        requires f_there { IsNode self.old f }
+        requires g_there { IsNode self.old g }
+        ensures kept { Keeps self.old self.new }
+        ensures right { IfOk result (λ w. IsRight (connective joint) self.new (record { u = f; v = g; w = w })) }
+        ensures explained { IfOk result (λ w. Explains (connective joint) self.new trace.old trace.new (record { u = f; v = g; w = w })) }
+        ensures err { OnErr result (trace.new ≡ trace.old) }
+    {
+        let mut memo = Memo::new(*self.order.allocator());
+        let w = self.join(joint, f, g, &mut memo)?;
+        memo.write(trace)?;
+        Ok(w)
+    }
+}
+
+// How far down the order a variable stands.
+fn depth_in(order: &[u64], var: u64) -> usize
+    ensures { result ≡ depth_in order.now var }
+{
+    for (depth, x) in order.iter().enumerate() {
+        if var == *x {
+            return depth;
+        }
+    }
+    order.len()
 }

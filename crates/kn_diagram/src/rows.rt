@@ -1,4 +1,4 @@
-ghost use Rattle.std.specs.Prelude.{ℕ, ◌≡◌, ◌+◌, ◌<◌, ◌≤◌, [], length, OnErr, IfOk};
+ghost use Rattle.std.specs.Prelude.{ℕ, ◌≡◌, ◌+◌, ◌^◌, ◌<◌, ◌≤◌, [], length, OnErr, IfOk};
 ghost use Rattle.kn_diagram.specs.Diagrams.{row_in, row_of_key, HasPlace};
 
 use indexmap::IndexMap;
@@ -30,8 +30,10 @@ impl Rows {
         }
     }
 
+    /// The number of rows.
     pub(crate) fn len(&self) -> usize
-        ensures { result ≡ length self.now }
+        ensures len { result ≡ length self.now }
+        ensures small { result < 2 ^ 63 }
     {
         self.places.len()
     }
