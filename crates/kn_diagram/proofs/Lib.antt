@@ -3,3 +3,4 @@ pub mod MemoLemmas
 pub mod PlaceLemmas
 pub mod NodeLemmas
 pub mod JoinLemmas
+pub mod ClauseLemmas

@@ -156,7 +156,7 @@ pub depth_of-branch : (d : Table) (node : ℕ) → IsTable d → IsNode d node �
 unfolding depth_of
 depth_of-branch d node ok h two = (branches (length d.order) d.rows node ok.rows two h).depth
 
-depth_in-slice_index : (order : List ℕ) (depth : ℕ) → IsDistinct nat_eq order → depth < length order → depth_in order (slice_index order depth) ≡ depth
+pub depth_in-slice_index : (order : List ℕ) (depth : ℕ) → IsDistinct nat_eq order → depth < length order → depth_in order (slice_index order depth) ≡ depth
 unfolding IsDistinct
 depth_in-slice_index [] depth d h = absurd (omega arith)
 depth_in-slice_index (x ∷ xs) zero d h = cond-true (x == x) 0 (1 + depth_in xs x) (eq-eqb x x refl)

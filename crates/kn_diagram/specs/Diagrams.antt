@@ -1,7 +1,8 @@
 -- Decision diagrams over one order of variables. A node is a number: 0 is "false", 1 is "true", and
 -- each other one stands for "if this variable then that node, else that other node".
-use Rattle.std.specs.Prelude.{ℕ, ◌≡◌, ◌+◌, ◌<◌, ◌≤◌, ◌==◌, ◌⊎◌, Bool, true, false, ◌&&◌, if◌then◌else◌, List, [], ◌∷◌, length, slice_index, nat_eq}
+use Rattle.std.specs.Prelude.{ℕ, ◌≡◌, ◌+◌, ◌<◌, ◌≤◌, ◌==◌, ◌⊎◌, Bool, true, false, not, ◌&&◌, if◌then◌else◌, List, [], ◌∷◌, length, slice_index, nat_eq}
 use Rattle.std.specs.List.{list_any, IsDistinct}
+use Rattle.kn_logic.specs.Literals.{Literal}
 
 -- "If the variable at this depth, then the high node, else the low node." The variable at depth 0 is
 -- the top of the order.
@@ -153,3 +154,11 @@ pub record IsBranch (d : Table) (node variable high low : ℕ) : Type 0 where
 -- Two nodes are one where their functions are.
 abbrev pub IsCanonical : Table → Type 0
 IsCanonical d = (f g : ℕ) → IsNode d f → IsNode d g → ((v : ℕ → Bool) → function_of d f v ≡ function_of d g v) → f ≡ g
+
+-- whether a literal is true where the variables have these values
+abbrev pub is_true_by : (ℕ → Bool) → Literal → Bool
+is_true_by v l = if l.positive then v l.variable else not (v l.variable)
+
+-- whether a list has the literal of this variable that asks for this value
+abbrev pub asks : List Literal → ℕ → Bool → Bool
+asks lits variable positive = list_any (λ l. (l.variable == variable) && (if positive then l.positive else not l.positive)) lits

@@ -1,14 +1,15 @@
 ghost use Rattle.std.specs.Prelude.{ℕ, ◌≡◌, ◌+◌, ◌<◌, ◌≤◌, ◌&&◌, ◌||◌, ◌↔◌, min, Bool, true, false, [], length, slice_index, nat_eq, if◌then◌else◌, OnOk, OnErr, IfOk, IfSome, is_none, nat_lt};
-ghost use Rattle.std.specs.List.{IsDistinct};
+ghost use Rattle.std.specs.List.{IsDistinct, AllByRecursion, list_any};
+ghost use Rattle.kn_logic.specs.Constraints.{is_clause};
 ghost use Rattle.kn_logic.specs.Assignments.{value_of};
 ghost use Rattle.kn_diagram.specs.Traces.{connective, AreExplained, Gains, IsRight, Explains};
-ghost use Rattle.kn_diagram.specs.Diagrams.{IsNode, function_of, depth_of, depth_in, IsBranch, IsCanonical, IsSplit, IsMade, Keeps};
+ghost use Rattle.kn_diagram.specs.Diagrams.{IsNode, function_of, depth_of, depth_in, is_true_by, asks, IsBranch, IsCanonical, IsSplit, IsMade, Keeps};
 
 use crate::{DiagramError, Node, Trace};
 use crate::joint::{Joint, decided};
 use crate::memo::Memo;
 use crate::rows::Rows;
-use kn_logic::{Assignment, NoMemory};
+use kn_logic::{Assignment, Constraint, Lit, NoMemory};
 use std::alloc::{AllocError, Global};
 use std::marker::Model;
 
@@ -60,6 +61,27 @@ impl Diagrams {
     {
         let depth = depth_in(&self.order, var);
         self.make_at(depth, high, low)
+    }
+
+    /// The function of a clause over variables of the order: some literal is true.
+    pub fn of_clause(&mut self, c: &Constraint) -> Result<Node, NoMemory>
+        requires clause { is_clause c.now ≡ true }
+        requires within { AllByRecursion (λ l. depth_in self.old.order l.variable < length self.old.order) c.now.lits }
+        ensures kept { Keeps self.old self.new }
+        ensures node { IfOk result (λ w. IsNode self.new w) }
+        ensures function { IfOk result (λ w. (v : ℕ → Bool) → function_of self.new w v ≡ list_any (is_true_by v) c.now.lits) }
+    {
+        let lits = c.lits();
+        let mut depth = self.order.len();
+        let mut node = Node::FALSE;
+        while depth > 0 {
+            depth -= 1;
+            let var = self.order[depth];
+            let high = true_or(asks(lits, var, true), node);
+            let low = true_or(asks(lits, var, false), node);
+            node = self.make_at(depth, high, low)?;
+        }
+        Ok(node)
     }
 
     /// The conjunction of both functions.
@@ -244,4 +266,18 @@ fn depth_in(order: &[u64], var: u64) -> usize
         }
     }
     order.len()
+}
+
+// Whether the literal of a variable that asks for this value is there.
+fn asks(lits: &[Lit], var: u64, positive: bool) -> bool
+    ensures { result ≡ asks lits.now var positive }
+{
+    lits.iter().any(|lit| lit.var() == var && lit.is_positive() == positive)
+}
+
+// The constant "true" where a test holds, and else the node.
+fn true_or(test: bool, node: Node) -> Node
+    ensures { result ≡ (if test then 1 else node) }
+{
+    if test { Node::TRUE } else { node }
 }
