@@ -1,8 +1,8 @@
 -- Nodes of a table.
-use Rattle.std.proofs.Common.{ℕ, ◌≡◌, ◌+◌, ◌<◌, ◌≤◌, ◌==◌, ◌⊎◌, inl, inr, Bool, true, false, if◌then◌else◌, List, [], ◌∷◌, length, slice_index, nat_eq, zero, suc, refl, sym, ap, subst, ◌∙◌, arith}
+use Rattle.std.proofs.Common.{ℕ, ◌≡◌, ◌+◌, ◌<◌, ◌≤◌, ◌==◌, ◌⊎◌, inl, inr, Bool, true, false, if◌then◌else◌, List, [], ◌∷◌, length, slice_index, nat_eq, zero, suc, refl, sym, ap, subst, ◌∙◌, arith, lit<}
 use Rattle.std.specs.List.{IsDistinct, AllByRecursion}
-use Rattle.std.proofs.lemmas.Bool.{ne_eqb, eq-eqb, eqb-true, eqb-false, cond-true, cond-false}
-use Rattle.kn_diagram.specs.Diagrams.{Row, Table, IsNode, row_in, value_in, function_of, depth_of, high_of, low_of, has_row, IsReduced, AreReduced, Stood, Joined, HasPlace, IsTable, IsKept, Keeps, high_at, low_at, IsSplit, IsMade, depth_in, IsBranch, IsCanonical}
+use Rattle.std.proofs.lemmas.Bool.{ne_eqb, eq-eqb, eqb-true, eqb-false, cond-true, cond-false, cases_lt}
+use Rattle.kn_diagram.specs.Diagrams.{Row, Table, IsNode, row_in, value_in, function_of, depth_of, high_of, low_of, has_row, IsReduced, AreReduced, Stood, Joined, HasPlace, IsTable, IsKept, Keeps, high_at, low_at, IsSplit, IsMade, depth_in, IsBranch, IsCanonical, AgreeFrom, HasNodes}
 use Rattle.kn_diagram.proofs.RowLemmas.{row_in-older, row_in-newest, row_in-constant, value_in-older, value_in-newest, value_in-constant, branches, value_in-below, canonical_in}
 
 pub Keeps-self : (d : Table) → Keeps d d
@@ -219,3 +219,25 @@ canonical d ok f g hf hg same =
       value_in-below (length d.order) d.rows f t (λ k. v (slice_index d.order k)) ok.rows hf (λ k a b. at k b)
       ∙ same v
       ∙ sym (value_in-below (length d.order) d.rows g t (λ k. v (slice_index d.order k)) ok.rows hg (λ k a b. at k b)))
+
+pub function_of-below : (d : Table) (node : ℕ) (v w : ℕ → Bool) → IsTable d → IsNode d node → AgreeFrom d (depth_of d node) v w → function_of d node v ≡ function_of d node w
+unfolding function_of depth_of
+function_of-below d node v w ok h agree =
+    value_in-below (length d.order) d.rows node (λ k. v (slice_index d.order k)) (λ k. w (slice_index d.order k)) ok.rows h agree
+
+pub depth_of-within : (d : Table) (node : ℕ) → IsTable d → IsNode d node → depth_of d node ≤ length d.order
+depth_of-within d node ok h = by (cases_lt node 2)
+    where
+      by : ((node < 2) ⊎ (2 ≤ node)) → depth_of d node ≤ length d.order
+      by (inl low) = omega (arith, depth_of-constant d node low)
+      by (inr two) = omega (arith, depth_of-branch d node ok h two)
+
+pub has_nodes : (d : Table) → IsTable d → HasNodes d
+has_nodes d ok = record {
+  no = λ v. function_of-constant d 0 v (lit< tt);
+  yes = λ v. function_of-constant d 1 v (lit< tt);
+  no_depth = depth_of-constant d 0 (lit< tt);
+  yes_depth = depth_of-constant d 1 (lit< tt);
+  depth_within = λ node h. depth_of-within d node ok h;
+  below = λ node v w h agree. function_of-below d node v w ok h agree;
+}

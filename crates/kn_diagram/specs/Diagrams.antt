@@ -162,3 +162,17 @@ is_true_by v l = if l.positive then v l.variable else not (v l.variable)
 -- whether a list has the literal of this variable that asks for this value
 abbrev pub asks : List Literal → ℕ → Bool → Bool
 asks lits variable positive = list_any (λ l. (l.variable == variable) && (if positive then l.positive else not l.positive)) lits
+
+-- Two assignments of values agree from a depth downwards.
+abbrev pub AgreeFrom : Table → ℕ → (ℕ → Bool) → (ℕ → Bool) → Type 0
+AgreeFrom d depth v w = (k : ℕ) → depth ≤ k → k < length d.order → v (slice_index d.order k) ≡ w (slice_index d.order k)
+
+-- What holds of each table: the constants, and that a node's function hangs on the node's own variable
+-- and on those further down alone.
+pub record HasNodes (d : Table) : Type 0 where
+  pub no : (v : ℕ → Bool) → function_of d 0 v ≡ false
+  pub yes : (v : ℕ → Bool) → function_of d 1 v ≡ true
+  pub no_depth : depth_of d 0 ≡ length d.order
+  pub yes_depth : depth_of d 1 ≡ length d.order
+  pub depth_within : (node : ℕ) → IsNode d node → depth_of d node ≤ length d.order
+  pub below : (node : ℕ) (v w : ℕ → Bool) → IsNode d node → AgreeFrom d (depth_of d node) v w → function_of d node v ≡ function_of d node w

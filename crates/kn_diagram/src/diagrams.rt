@@ -3,7 +3,7 @@ ghost use Rattle.std.specs.List.{IsDistinct, AllByRecursion, list_any};
 ghost use Rattle.kn_logic.specs.Constraints.{is_clause};
 ghost use Rattle.kn_logic.specs.Assignments.{value_of};
 ghost use Rattle.kn_diagram.specs.Traces.{connective, AreExplained, Gains, IsRight, Explains};
-ghost use Rattle.kn_diagram.specs.Diagrams.{IsNode, function_of, depth_of, depth_in, is_true_by, asks, IsBranch, IsCanonical, IsSplit, IsMade, Keeps};
+ghost use Rattle.kn_diagram.specs.Diagrams.{IsNode, function_of, depth_of, depth_in, is_true_by, asks, IsBranch, IsCanonical, HasNodes, IsSplit, IsMade, Keeps};
 
 use crate::{DiagramError, Node, Trace};
 use crate::joint::{Joint, decided};
@@ -37,7 +37,8 @@ impl Diagrams {
     /// Diagrams over these variables, the first of them at the top.
     pub fn new(alloc: Global, order: &[u64]) -> Result<Diagrams, NoMemory>
         requires { IsDistinct nat_eq order.now }
-        ensures { IfOk result (λ d. d ≡ record { order = order.now; rows = [] }) }
+        ensures order { IfOk result (λ d. d.order ≡ order.now) }
+        ensures nodes { IfOk result (λ d. (node : ℕ) → IsNode d node ↔ (node < 2)) }
     {
         Ok(Diagrams {
             order: Vec::from_slice(alloc, order)?,
@@ -148,8 +149,7 @@ impl Diagrams {
     pub fn nodes(&self) -> u64
         ensures count { (node : ℕ) → IsNode self.now node ↔ (node < result) }
         ensures canonical { IsCanonical self.now }
-        ensures no { (v : ℕ → Bool) → function_of self.now 0 v ≡ false }
-        ensures yes { (v : ℕ → Bool) → function_of self.now 1 v ≡ true }
+        ensures laws { HasNodes self.now }
     {
         self.rows.len() as u64 + 2
     }
