@@ -4,3 +4,4 @@ pub mod PlaceLemmas
 pub mod NodeLemmas
 pub mod JoinLemmas
 pub mod ClauseLemmas
+pub mod WidthLemmas
