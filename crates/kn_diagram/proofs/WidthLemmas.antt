@@ -1,7 +1,7 @@
 -- Which nodes are reached from a node, and how many.
-use Rattle.std.proofs.Common.{ℕ, zero, suc, ◌≡◌, ◌+◌, ◌-◌, ◌<◌, ◌≤◌, ◌==◌, ◌⊎◌, inl, inr, Bool, true, false, ◌&&◌, ◌||◌, if◌then◌else◌, List, [], ◌∷◌, length, slice_index_or, slice_set, refl, sym, ap, subst, ◌∙◌, arith, true≢false}
-use Rattle.std.proofs.lemmas.Bool.{eqb-true, eq-eqb, ne_eqb, cond-true, cond-false, or_cases, or_left, or_right, and_parts, cases_eq, cases_lt, cases_Bool, false_from_ne_true}
-use Rattle.std.proofs.lemmas.List.{get_or-set_same, get_or-set_other, length-set}
+use Rattle.std.proofs.Common.{ℕ, zero, suc, ◌≡◌, ◌+◌, ◌-◌, ◌<◌, ◌≤◌, ◌==◌, ◌⊎◌, inl, inr, Bool, true, false, ◌&&◌, ◌||◌, if◌then◌else◌, List, [], ◌∷◌, length, slice_index_or, slice_set, replicate, lit<, refl, sym, ap, subst, ◌∙◌, arith, true≢false}
+use Rattle.std.proofs.lemmas.Bool.{eqb-true, eq-eqb, ne_eqb, cond-true, cond-false, or_cases, or_left, or_right, and_parts, and_left, and_right, cases_eq, cases_lt, cases_Bool, false_from_ne_true}
+use Rattle.std.proofs.lemmas.List.{get_or-set_same, get_or-set_other, length-set, get_or-replicate, get_or_past, length-replicate}
 use Rattle.kn_diagram.specs.Diagrams.{Row, Table, IsNode, row_in, depth_of, high_of, low_of, AreReduced, IsTable}
 use Rattle.kn_diagram.specs.Widths.{reaches_in, reaches, reached_below, width_at}
 use Rattle.kn_diagram.proofs.RowLemmas.{row_in-older, row_in-newest, Branches, branches}
@@ -239,3 +239,62 @@ marks-last d from number marks m low node = by (cases_Bool (at marks node)) (cas
       by (inl a) b = a ∙ sym (m.sound node a)
       by (inr a) (inl b) = marked (m.whole node b) ∙ sym b
       by (inr a) (inr b) = a ∙ sym b
+
+pub at-none : (n j : ℕ) → at (replicate n false) j ≡ false
+at-none n j = by (cases_lt j n)
+    where
+      by : ((j < n) ⊎ (n ≤ j)) → at (replicate n false) j ≡ false
+      by (inl l) = get_or-replicate n j false false l
+      by (inr l) = get_or_past (replicate n false) j false (omega (arith, length-replicate n false))
+
+pub marks-step : (d : Table) (from number next : ℕ) (marks new : List Bool) → IsTable d → IsNode d from → Marks d from number marks → 2 ≤ number → number ≡ suc next
+    → new ≡ (if at marks number then slice_set (slice_set marks (high_of d number) true) (low_of d number) true else marks) → Marks d from next new
+marks-step d from number next marks new ok h m two is e =
+    by (at marks (suc next)) refl
+    where
+      m' : Marks d from (suc next) marks
+      m' = subst (λ n. Marks d from n marks) is m
+      e' : new ≡ (if at marks (suc next) then slice_set (slice_set marks (high_of d (suc next)) true) (low_of d (suc next)) true else marks)
+      e' = e ∙ (λ i. if at marks (is i) then slice_set (slice_set marks (high_of d (is i)) true) (low_of d (is i)) true else marks)
+      by : (b : Bool) → at marks (suc next) ≡ b → Marks d from next new
+      by true t =
+          let f : new ≡ slice_set (slice_set marks (high_of d (suc next)) true) (low_of d (suc next)) true =
+                e' ∙ cond-true (at marks (suc next)) (slice_set (slice_set marks (high_of d (suc next)) true) (low_of d (suc next)) true) marks t in
+          subst (Marks d from next) (sym f) (marks-pass d from next marks ok h m' (omega arith) t)
+      by false t =
+          let f : new ≡ marks = e' ∙ cond-false (at marks (suc next)) (slice_set (slice_set marks (high_of d (suc next)) true) (low_of d (suc next)) true) marks t in
+          subst (Marks d from next) (sym f) (marks-skip d from next marks m' t)
+
+pub reached_below-within : (d : Table) (from depth n : ℕ) → reached_below d from depth n ≤ n
+reached_below-within d from depth zero = omega arith
+reached_below-within d from depth (suc n) = by (reaches d from n && (depth_of d n == depth)) (reached_below-within d from depth n)
+    where
+      by : (b : Bool) → reached_below d from depth n ≤ n → (if b then 1 else 0) + reached_below d from depth n ≤ suc n
+      by true h = omega arith
+      by false h = omega arith
+
+-- the constants are of no variable
+pub reached_below-constants : (d : Table) (from depth : ℕ) → depth < length d.order → reached_below d from depth 2 ≡ 0
+reached_below-constants d from depth h =
+    let one : (depth_of d 1 == depth) ≡ false = ne_eqb (depth_of d 1) depth (λ e. omega (arith, depth_of-constant d 1 (lit< tt))) in
+    let zero_off : (depth_of d 0 == depth) ≡ false = ne_eqb (depth_of d 0) depth (λ e. omega (arith, depth_of-constant d 0 (lit< tt))) in
+    let a = cond-false (reaches d from 1 && (depth_of d 1 == depth)) 1 0 (and_right (reaches d from 1) (depth_of d 1 == depth) one) in
+    let b = cond-false (reaches d from 0 && (depth_of d 0 == depth)) 1 0 (and_right (reaches d from 0) (depth_of d 0 == depth) zero_off) in
+    λ i. a i + (b i + 0)
+
+-- no node is reached from an older one
+reached_below-beyond : (d : Table) (from depth n more : ℕ) → IsTable d → IsNode d from → from < n → reached_below d from depth (more + n) ≡ reached_below d from depth n
+reached_below-beyond d from depth n zero ok h l = ap (reached_below d from depth) (let e : 0 + n ≡ n = omega arith in e)
+reached_below-beyond d from depth n (suc more) ok h l =
+    let next : suc more + n ≡ suc (more + n) = omega arith in
+    let off : reaches d from (more + n) ≡ false = false_from_ne_true (reaches d from (more + n)) (λ e. let k = reaches-down d from (more + n) ok h e in omega arith) in
+    ap (reached_below d from depth) next
+    ∙ ap (λ x. x + reached_below d from depth (more + n)) (cond-false (reaches d from (more + n) && (depth_of d (more + n) == depth)) 1 0 (and_left (reaches d from (more + n)) (depth_of d (more + n) == depth) off))
+    ∙ (let e : 0 + reached_below d from depth (more + n) ≡ reached_below d from depth (more + n) = omega arith in e)
+    ∙ reached_below-beyond d from depth n more ok h l
+
+pub reached_below-width : (d : Table) (from depth n : ℕ) → IsTable d → IsNode d from → from < n → n ≤ length d.rows + 2 → reached_below d from depth n ≡ width_at d from depth
+unfolding width_at
+reached_below-width d from depth n ok h l k =
+    let e : length d.rows + 2 ≡ (length d.rows + 2 - n) + n = omega arith in
+    sym (ap (reached_below d from depth) e ∙ reached_below-beyond d from depth n (length d.rows + 2 - n) ok h l)

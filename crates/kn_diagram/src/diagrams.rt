@@ -2,13 +2,15 @@ ghost use Rattle.std.specs.Prelude.{ℕ, ◌≡◌, ◌+◌, ◌<◌, ◌≤◌,
 ghost use Rattle.std.specs.List.{IsDistinct, AllByRecursion, list_any};
 ghost use Rattle.kn_logic.specs.Constraints.{is_clause};
 ghost use Rattle.kn_logic.specs.Assignments.{value_of};
+ghost use Rattle.kn_diagram.specs.Widths.{IsWidest};
 ghost use Rattle.kn_diagram.specs.Traces.{connective, AreExplained, Gains, IsRight, Explains};
-ghost use Rattle.kn_diagram.specs.Diagrams.{IsNode, function_of, depth_of, depth_in, is_true_by, asks, IsBranch, IsCanonical, HasNodes, IsSplit, IsMade, Keeps};
+ghost use Rattle.kn_diagram.specs.Diagrams.{IsNode, function_of, depth_of, depth_in, is_true_by, asks, IsBranch, IsCanonical, HasNodes, IsTable, IsSplit, IsMade, Keeps};
 
 use crate::{DiagramError, Node, Trace};
 use crate::joint::{Joint, decided};
 use crate::memo::Memo;
 use crate::rows::Rows;
+use crate::width;
 use kn_logic::{Assignment, Constraint, Lit, NoMemory};
 use std::alloc::{AllocError, Global};
 use std::marker::Model;
@@ -145,6 +147,34 @@ impl Diagrams {
         node == Node::TRUE
     }
 
+    /// The greatest number of different nodes of one variable that are reached from `f`.
+    pub fn widest(&self, f: Node) -> Result<u64, NoMemory>
+        requires { IsNode self.now f }
+        ensures { IfOk result (λ n. IsWidest self.now f n) }
+    {
+        width::widest(*self.order.allocator(), self, f)
+    }
+
+    /// How many nodes there are up to this one.
+    pub(crate) fn count_to(&self, node: Node) -> usize
+        requires { IsNode self.now node }
+        ensures count { result ≡ node + 1 }
+        ensures table { IsTable self.now }
+    {
+        let rows = self.rows.len();
+        let number = node.number();
+        prove!(number < rows + 2);
+        number + 1
+    }
+
+    /// The number of variables.
+    pub(crate) fn height(&self) -> usize
+        ensures len { result ≡ length self.now.order }
+        ensures table { IsTable self.now }
+    {
+        self.order.len()
+    }
+
     /// How many nodes there are, with the two constants.
     pub fn nodes(&self) -> u64
         ensures count { (node : ℕ) → IsNode self.now node ↔ (node < result) }
@@ -154,8 +184,8 @@ impl Diagrams {
         self.rows.len() as u64 + 2
     }
 
-    // How far down the order the variable of a node stands; a constant stands below all.
-    fn depth(&self, node: Node) -> usize
+    /// How far down the order the variable of a node stands; a constant stands below all.
+    pub(crate) fn depth(&self, node: Node) -> usize
         requires { IsNode self.now node }
         ensures value { result ≡ depth_of self.now node }
         ensures branch { 2 ≤ node → result < length self.now.order }

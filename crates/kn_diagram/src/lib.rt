@@ -8,6 +8,7 @@ mod memo;
 mod node;
 mod rows;
 mod trace;
+mod width;
 
 pub use diagrams::Diagrams;
 pub use error::DiagramError;
