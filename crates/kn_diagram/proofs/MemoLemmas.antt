@@ -1,12 +1,11 @@
 -- The results of an operation as the entries of a table.
-use Rattle.std.proofs.Common.{ℕ, ◌≡◌, ◌==◌, ◌&&◌, ◌+◌, ◌∙◌, Bool, true, false, if◌then◌else◌, List, [], ◌∷◌, ◌++◌, map, take, slice_get, refl, sym, ap, Option, Some, None}
+use Rattle.std.proofs.Common.{ℕ, ◌≡◌, ◌==◌, ◌&&◌, ◌+◌, ◌∙◌, Bool, true, false, if◌then◌else◌, List, [], ◌∷◌, ◌++◌, map, take, slice_get, refl, sym, ap, Some, None}
 use Rattle.std.specs.Map.{lookup}
 use Rattle.std.specs.Option.{option_map}
 use Rattle.std.proofs.lemmas.Bool.{cond-true, cond-false}
 use Rattle.std.proofs.lemmas.Option.{slice_get-map, slice_get_within, get_or_from_slice_get}
 use Rattle.std.proofs.lemmas.Grind.{take_at_read}
 use Rattle.indexmap.specs.IndexMap.{insert_entry}
-use Rattle.kn_diagram.specs.declared.trace.Met.{Met}
 use Rattle.kn_diagram.specs.Traces.{found, met_of}
 
 pub found-lookup : (u v : ℕ) (es : List ((ℕ × ℕ) × ℕ)) → found (map met_of es) u v ≡ lookup (λ y. (u == y.0) && (v == y.1)) es
@@ -21,15 +20,15 @@ pub insert-found : (u v w : ℕ) (es : List ((ℕ × ℕ) × ℕ)) → found (ma
     → map met_of (insert_entry same_pair es (u, v) w) ≡ map met_of es ++ record { u = u; v = v; w = w } ∷ []
 insert-found u v w [] h = refl
 insert-found u v w (e ∷ es) h = by (same_pair (u, v) e.0) refl (insert-found u v w es)
-    where
-      by : (b : Bool) → same_pair (u, v) e.0 ≡ b
-          → (found (map met_of es) u v ≡ None → map met_of (insert_entry same_pair es (u, v) w) ≡ map met_of es ++ record { u = u; v = v; w = w } ∷ [])
-          → map met_of (insert_entry same_pair (e ∷ es) (u, v) w) ≡ map met_of (e ∷ es) ++ record { u = u; v = v; w = w } ∷ []
-      by true t rest =
-          let some : Some e.1 ≡ None = sym (cond-true (same_pair (u, v) e.0) (Some e.1) (found (map met_of es) u v) t) ∙ h in absurd (cc)
-      by false t rest =
-          ap (map met_of) (cond-false (same_pair (u, v) e.0) ((e.0, w) ∷ es) (e ∷ insert_entry same_pair es (u, v) w) t)
-          ∙ ap (λ x. met_of e ∷ x) (rest (sym (cond-false (same_pair (u, v) e.0) (Some e.1) (found (map met_of es) u v) t) ∙ h))
+  where
+    by : (b : Bool) → same_pair (u, v) e.0 ≡ b
+        → (found (map met_of es) u v ≡ None → map met_of (insert_entry same_pair es (u, v) w) ≡ map met_of es ++ record { u = u; v = v; w = w } ∷ [])
+        → map met_of (insert_entry same_pair (e ∷ es) (u, v) w) ≡ map met_of (e ∷ es) ++ record { u = u; v = v; w = w } ∷ []
+    by true t rest =
+        let some : Some e.1 ≡ None = sym (cond-true (same_pair (u, v) e.0) (Some e.1) (found (map met_of es) u v) t) ∙ h in absurd (cc)
+    by false t rest =
+        ap (map met_of) (cond-false (same_pair (u, v) e.0) ((e.0, w) ∷ es) (e ∷ insert_entry same_pair es (u, v) w) t)
+        ∙ ap (λ x. met_of e ∷ x) (rest (sym (cond-false (same_pair (u, v) e.0) (Some e.1) (found (map met_of es) u v) t) ∙ h))
 
 pub taken-one_more : (es : List ((ℕ × ℕ) × ℕ)) (i : ℕ) (pair : ℕ × ℕ) (w : ℕ) → Some (pair, w) ≡ slice_get es i
     → take (i + 1) (map met_of es) ≡ take i (map met_of es) ++ met_of (pair, w) ∷ []

@@ -2,7 +2,7 @@
 use Rattle.std.proofs.Common.{ℕ, ◌≡◌, ◌+◌, ◌<◌, ◌≤◌, ◌==◌, ◌⊎◌, inl, inr, Bool, true, false, if◌then◌else◌, List, [], ◌∷◌, length, slice_index, nat_eq, zero, suc, refl, sym, ap, subst, ◌∙◌, arith, lit<}
 use Rattle.std.specs.List.{IsDistinct, AllByRecursion}
 use Rattle.std.proofs.lemmas.Bool.{ne_eqb, eq-eqb, eqb-true, eqb-false, cond-true, cond-false, cases_lt}
-use Rattle.kn_diagram.specs.Diagrams.{Row, Table, IsNode, row_in, value_in, function_of, depth_of, high_of, low_of, has_row, IsReduced, AreReduced, Stood, Joined, HasPlace, IsTable, IsKept, Keeps, high_at, low_at, IsSplit, IsMade, depth_in, IsBranch, IsCanonical, AgreeFrom, HasNodes}
+use Rattle.kn_diagram.specs.Diagrams.{Row, Table, IsNode, row_in, value_in, function_of, depth_of, high_of, low_of, HasPlace, IsTable, Keeps, IsSplit, IsMade, depth_in, IsBranch, IsCanonical, AgreeFrom, HasNodes}
 use Rattle.kn_diagram.proofs.RowLemmas.{row_in-older, row_in-newest, row_in-constant, value_in-older, value_in-newest, value_in-constant, branches, value_in-below, canonical_in}
 
 pub Keeps-self : (d : Table) → Keeps d d
@@ -12,15 +12,15 @@ pub Keeps-along : (a b c : Table) → Keeps a b → Keeps b c → Keeps a c
 Keeps-along a b c k l = record {
   order = l.order ∙ k.order;
   nodes = λ node h.
-    let p = k.nodes node h in
-    let q = l.nodes node p.there in
-    record {
-      there = q.there;
-      function = λ v. q.function v ∙ p.function v;
-      depth = q.depth ∙ p.depth;
-      high = q.high ∙ p.high;
-      low = q.low ∙ p.low;
-    };
+      let p = k.nodes node h in
+      let q = l.nodes node p.there in
+      record {
+        there = q.there;
+        function = λ v. q.function v ∙ p.function v;
+        depth = q.depth ∙ p.depth;
+        high = q.high ∙ p.high;
+        low = q.low ∙ p.low;
+      };
 }
 
 -- one more row changes no node
@@ -59,10 +59,10 @@ split-apart d node depth h a = record {
   older = λ e. absurd (omega arith);
   function = λ v. both (v (slice_index d.order depth)) (function_of d node v);
 }
-    where
-      both : (b x : Bool) → x ≡ (if b then x else x)
-      both true x = refl
-      both false x = refl
+  where
+    both : (b x : Bool) → x ≡ (if b then x else x)
+    both true x = refl
+    both false x = refl
 
 pub split-own : (d : Table) (node : ℕ) → IsTable d → IsNode d node → 2 ≤ node → IsSplit d node (depth_of d node) (high_of d node) (low_of d node)
 unfolding function_of depth_of high_of low_of
@@ -102,7 +102,7 @@ makes order old new row place ok (inl s) depth high low different above_high abo
         there = omega (arith, s.within);
         depth_is = let e : row.depth ≡ (row_in (length order) old (place + 2)).depth = ap (λ r. r.depth) (sym is) in omega arith;
         function = λ v. b.value (λ k. v (slice_index order k))
-          ∙ ap (λ r. if v (slice_index order r.depth) then value_in old r.high (λ k. v (slice_index order k)) else value_in old r.low (λ k. v (slice_index order k))) is;
+            ∙ ap (λ r. if v (slice_index order r.depth) then value_in old r.high (λ k. v (slice_index order k)) else value_in old r.low (λ k. v (slice_index order k))) is;
       };
     })
 makes order old new row place ok (inr j) depth high low different above_high above_low =
@@ -140,16 +140,16 @@ pub makes-from : (order : List ℕ) (old new : List Row) (self : Table) (depth h
     → MakesFrom self (record { order = order; rows = new }) depth high low node
 makes-from order old new self depth high low h l node place view ok has e f n different =
     let P : Table → Type 0 = λ d. IsNode d high → IsNode d low → depth < length d.order → depth < depth_of d high → depth < depth_of d low
-          → MakesFrom d (record { order = order; rows = new }) depth high low node in
+    → MakesFrom d (record { order = order; rows = new }) depth high low node in
     let placed : HasPlace (record { depth = depth; high = high; low = low }) old new place =
-          subst (λ x. HasPlace (record { depth = depth; high = high; low = x }) old new place) f (subst (λ x. HasPlace (record { depth = depth; high = x; low = l }) old new place) e has) in
+    subst (λ x. HasPlace (record { depth = depth; high = high; low = x }) old new place) f (subst (λ x. HasPlace (record { depth = depth; high = x; low = l }) old new place) e has) in
     subst P view (λ high_there low_there within above_high above_low.
-      let m = makes order old new (record { depth = depth; high = high; low = low }) place ok placed within high_there low_there different above_high above_low in
-      record {
-        table = m.table;
-        kept = m.kept;
-        made = subst (λ x. IsMade (record { order = order; rows = old }) (record { order = order; rows = new }) depth high low x) (sym n) m.made;
-      })
+    let m = makes order old new (record { depth = depth; high = high; low = low }) place ok placed within high_there low_there different above_high above_low in
+    record {
+      table = m.table;
+      kept = m.kept;
+      made = subst (λ x. IsMade (record { order = order; rows = old }) (record { order = order; rows = new }) depth high low x) (sym n) m.made;
+    })
 
 -- a node that is no constant has a variable
 pub depth_of-branch : (d : Table) (node : ℕ) → IsTable d → IsNode d node → 2 ≤ node → depth_of d node < length d.order
@@ -166,24 +166,25 @@ depth_in-slice_index (x ∷ xs) (suc depth) d h =
     let other : (x == y) ≡ false = apart xs depth d.0 s in
     let turned : (y == x) ≡ false = ne_eqb y x (λ e. eqb-false x y other (sym e)) in
     cond-false (y == x) 0 (1 + depth_in xs y) turned ∙ ap (λ n. 1 + n) (depth_in-slice_index xs depth d.1 s) ∙ one_more depth
-    where
-      one_more : (n : ℕ) → 1 + n ≡ suc n
-      one_more n = omega arith
-      apart : (ys : List ℕ) (k : ℕ) → AllByRecursion (λ y. (x == y) ≡ false) ys → k < length ys → (x == slice_index ys k) ≡ false
-      apart [] k a l = absurd (omega arith)
-      apart (y ∷ ys) zero a l = a.0
-      apart (y ∷ ys) (suc k) a l = apart ys k a.1 (omega arith)
+  where
+    one_more : (n : ℕ) → 1 + n ≡ suc n
+    one_more n = omega arith
+
+    apart : (ys : List ℕ) (k : ℕ) → AllByRecursion (λ y. (x == y) ≡ false) ys → k < length ys → (x == slice_index ys k) ≡ false
+    apart [] k a l = absurd (omega arith)
+    apart (y ∷ ys) zero a l = a.0
+    apart (y ∷ ys) (suc k) a l = apart ys k a.1 (omega arith)
 
 pub slice_index-depth_in : (order : List ℕ) (variable : ℕ) → depth_in order variable < length order → slice_index order (depth_in order variable) ≡ variable
 slice_index-depth_in [] variable h = absurd (omega arith)
 slice_index-depth_in (x ∷ xs) variable h = by (variable == x) refl (slice_index-depth_in xs variable)
-    where
-      by : (b : Bool) → (variable == x) ≡ b → (depth_in xs variable < length xs → slice_index xs (depth_in xs variable) ≡ variable)
-          → slice_index (x ∷ xs) (depth_in (x ∷ xs) variable) ≡ variable
-      by true t rest = ap (slice_index (x ∷ xs)) (cond-true (variable == x) 0 (1 + depth_in xs variable) t) ∙ sym (eqb-true variable x t)
-      by false t rest =
-          let e : depth_in (x ∷ xs) variable ≡ suc (depth_in xs variable) = cond-false (variable == x) 0 (1 + depth_in xs variable) t ∙ omega arith in
-          ap (slice_index (x ∷ xs)) e ∙ rest (omega arith)
+  where
+    by : (b : Bool) → (variable == x) ≡ b → (depth_in xs variable < length xs → slice_index xs (depth_in xs variable) ≡ variable)
+        → slice_index (x ∷ xs) (depth_in (x ∷ xs) variable) ≡ variable
+    by true t rest = ap (slice_index (x ∷ xs)) (cond-true (variable == x) 0 (1 + depth_in xs variable) t) ∙ sym (eqb-true variable x t)
+    by false t rest =
+        let e : depth_in (x ∷ xs) variable ≡ suc (depth_in xs variable) = cond-false (variable == x) 0 (1 + depth_in xs variable) t ∙ omega arith in
+        ap (slice_index (x ∷ xs)) e ∙ rest (omega arith)
 
 pub branch-is : (d : Table) (node variable high low : ℕ) → IsTable d → IsNode d node → 2 ≤ node → variable ≡ slice_index d.order (depth_of d node)
     → high ≡ high_of d node → low ≡ low_of d node → IsBranch d node variable high low
@@ -206,19 +207,19 @@ branch-is d node variable high low ok h two x e f =
       function = λ v. b.value (λ k. v (slice_index d.order k));
     } in
     subst (λ z. IsBranch d node variable high z) (sym f)
-      (subst (λ z. IsBranch d node variable z (low_of d node)) (sym e)
-        (subst (λ z. IsBranch d node z (high_of d node) (low_of d node)) (sym x) m))
+    (subst (λ z. IsBranch d node variable z (low_of d node)) (sym e)
+    (subst (λ z. IsBranch d node z (high_of d node) (low_of d node)) (sym x) m))
 
 -- Two nodes with one function are one.
 pub canonical : (d : Table) → IsTable d → IsCanonical d
 unfolding function_of
 canonical d ok f g hf hg same =
     canonical_in (length d.order) d.rows f g ok.rows hf hg (λ t.
-      let v : ℕ → Bool = λ x. t (depth_in d.order x) in
-      let at : (k : ℕ) → k < length d.order → t k ≡ v (slice_index d.order k) = λ k h. sym (ap t (depth_in-slice_index d.order k ok.order h)) in
-      value_in-below (length d.order) d.rows f t (λ k. v (slice_index d.order k)) ok.rows hf (λ k a b. at k b)
-      ∙ same v
-      ∙ sym (value_in-below (length d.order) d.rows g t (λ k. v (slice_index d.order k)) ok.rows hg (λ k a b. at k b)))
+    let v : ℕ → Bool = λ x. t (depth_in d.order x) in
+    let at : (k : ℕ) → k < length d.order → t k ≡ v (slice_index d.order k) = λ k h. sym (ap t (depth_in-slice_index d.order k ok.order h)) in
+    value_in-below (length d.order) d.rows f t (λ k. v (slice_index d.order k)) ok.rows hf (λ k a b. at k b)
+    ∙ same v
+    ∙ sym (value_in-below (length d.order) d.rows g t (λ k. v (slice_index d.order k)) ok.rows hg (λ k a b. at k b)))
 
 pub function_of-below : (d : Table) (node : ℕ) (v w : ℕ → Bool) → IsTable d → IsNode d node → AgreeFrom d (depth_of d node) v w → function_of d node v ≡ function_of d node w
 unfolding function_of depth_of
@@ -227,10 +228,10 @@ function_of-below d node v w ok h agree =
 
 pub depth_of-within : (d : Table) (node : ℕ) → IsTable d → IsNode d node → depth_of d node ≤ length d.order
 depth_of-within d node ok h = by (cases_lt node 2)
-    where
-      by : ((node < 2) ⊎ (2 ≤ node)) → depth_of d node ≤ length d.order
-      by (inl low) = omega (arith, depth_of-constant d node low)
-      by (inr two) = omega (arith, depth_of-branch d node ok h two)
+  where
+    by : ((node < 2) ⊎ (2 ≤ node)) → depth_of d node ≤ length d.order
+    by (inl low) = omega (arith, depth_of-constant d node low)
+    by (inr two) = omega (arith, depth_of-branch d node ok h two)
 
 pub has_nodes : (d : Table) → IsTable d → HasNodes d
 has_nodes d ok = record {

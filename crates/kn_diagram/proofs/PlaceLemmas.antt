@@ -1,15 +1,14 @@
 -- The rows as the keys of a table, the oldest first.
-use Rattle.std.proofs.Common.{ℕ, ◌≡◌, ◌+◌, ◌<◌, ◌==◌, ◌⊎◌, inl, inr, Bool, true, false, ◌&&◌, ◌||◌, not, cond, zero, suc, if◌then◌else◌, List, [], ◌∷◌, ◌++◌, length, map, reverse, slice_get, Option, Some, None, refl, sym, ap, subst, ◌∙◌, arith, rules, true≢false}
+use Rattle.std.proofs.Common.{ℕ, ◌≡◌, ◌+◌, ◌<◌, ◌==◌, ◌⊎◌, inl, inr, Bool, true, false, ◌&&◌, ◌||◌, not, cond, zero, suc, List, [], ◌∷◌, ◌++◌, length, map, reverse, slice_get, Some, refl, sym, ap, ◌∙◌, arith}
 use mathlib.Core.List.{reverse_aux}
 use Rattle.std.specs.List.{list_any, position_or_len}
 use Rattle.std.specs.Map.{keys_of}
-use Rattle.std.proofs.Math.Bool.{or_assoc}
-use Rattle.std.proofs.lemmas.Bool.{cases_Bool, cond-true, cond-false, and_parts, eqb-true, or_left, or_right}
+use Rattle.std.proofs.lemmas.Bool.{cond-true, cond-false, and_parts, eqb-true, or_left, or_right}
 use Rattle.std.proofs.lemmas.Option.{slice_get-map}
 use Rattle.std.specs.Option.{option_map}
 use Rattle.std.proofs.lemmas.List.{map-append, reverse-append, length-reverse, length-map}
 use Rattle.indexmap.specs.IndexMap.{insert_entry}
-use Rattle.kn_diagram.specs.Diagrams.{Row, row_in, row_of_key, is_same, has_row, Stood, Joined, HasPlace}
+use Rattle.kn_diagram.specs.Diagrams.{Row, row_in, row_of_key, is_same, has_row, HasPlace}
 use Rattle.kn_diagram.proofs.RowLemmas.{row_in-older, row_in-newest}
 
 abbrev pub Key : Type 0
@@ -42,22 +41,23 @@ one_more n = omega arith
 pub placed : (es : List (Key × Unit {0})) (k : Key) → Fresh es k ⊎ Known es k
 placed [] k = inl (record { once = refl; more = refl; last = refl })
 placed (e ∷ es) k = by (same_key k e.0) refl (placed es k)
-    where
-      Cases : Type 0
-      Cases = Fresh (e ∷ es) k ⊎ Known (e ∷ es) k
-      by : (b : Bool) → same_key k e.0 ≡ b → Fresh es k ⊎ Known es k → Cases
-      by true h rest = inr (record {
-        had = or_left (same_key k e.0) (list_any (same_key k) (keys_of es)) h;
-        same = cond-true (same_key k e.0) ((e.0, tt) ∷ es) (e ∷ insert_entry same_key es k tt) h;
-        within = let z : position_or_len (same_key k) (keys_of (e ∷ es)) ≡ 0 = ap (λ b. cond (not b) (1 + position_or_len (same_key k) (keys_of es)) 0) h in omega arith;
-        there = ap (λ b. slice_get (keys_of (e ∷ es)) (cond (not b) (1 + position_or_len (same_key k) (keys_of es)) 0)) h ∙ ap Some (same_key-true k e.0 h);
-      })
-      by false h (inl f) = inl (record {
-        once = ap (λ b. b || list_any (same_key k) (keys_of es)) h ∙ f.once;
-        more = cond-false (same_key k e.0) ((e.0, tt) ∷ es) (e ∷ insert_entry same_key es k tt) h ∙ ap (λ x. e ∷ x) f.more;
-        last = ap (λ b. cond (not b) (1 + position_or_len (same_key k) (keys_of es)) 0) h ∙ ap (λ n. 1 + n) f.last ∙ one_more (length es);
-      })
-      by false h (inr f) =
+  where
+    Cases : Type 0
+    Cases = Fresh (e ∷ es) k ⊎ Known (e ∷ es) k
+
+    by : (b : Bool) → same_key k e.0 ≡ b → Fresh es k ⊎ Known es k → Cases
+    by true h rest = inr (record {
+      had = or_left (same_key k e.0) (list_any (same_key k) (keys_of es)) h;
+      same = cond-true (same_key k e.0) ((e.0, tt) ∷ es) (e ∷ insert_entry same_key es k tt) h;
+      within = let z : position_or_len (same_key k) (keys_of (e ∷ es)) ≡ 0 = ap (λ b. cond (not b) (1 + position_or_len (same_key k) (keys_of es)) 0) h in omega arith;
+      there = ap (λ b. slice_get (keys_of (e ∷ es)) (cond (not b) (1 + position_or_len (same_key k) (keys_of es)) 0)) h ∙ ap Some (same_key-true k e.0 h);
+    })
+    by false h (inl f) = inl (record {
+      once = ap (λ b. b || list_any (same_key k) (keys_of es)) h ∙ f.once;
+      more = cond-false (same_key k e.0) ((e.0, tt) ∷ es) (e ∷ insert_entry same_key es k tt) h ∙ ap (λ x. e ∷ x) f.more;
+      last = ap (λ b. cond (not b) (1 + position_or_len (same_key k) (keys_of es)) 0) h ∙ ap (λ n. 1 + n) f.last ∙ one_more (length es);
+    })
+    by false h (inr f) =
         let z : position_or_len (same_key k) (keys_of (e ∷ es)) ≡ 1 + position_or_len (same_key k) (keys_of es) = ap (λ b. cond (not b) (1 + position_or_len (same_key k) (keys_of es)) 0) h in
         inr (record {
           had = or_right (same_key k e.0) (list_any (same_key k) (keys_of es)) f.had;
@@ -73,11 +73,11 @@ rows_of es = reverse (map (λ e. row_of_key e.0) es)
 any-reverse_aux : (row : Row) (xs ys : List Row) → list_any (is_same row) (reverse_aux xs ys) ≡ (list_any (is_same row) xs || list_any (is_same row) ys)
 any-reverse_aux row [] ys = refl
 any-reverse_aux row (x ∷ xs) ys = any-reverse_aux row xs (x ∷ ys) ∙ turned (is_same row x) (list_any (is_same row) xs) (list_any (is_same row) ys)
-    where
-      turned : (a b c : Bool) → (b || (a || c)) ≡ ((a || b) || c)
-      turned true true c = refl
-      turned true false c = refl
-      turned false b c = refl
+  where
+    turned : (a b c : Bool) → (b || (a || c)) ≡ ((a || b) || c)
+    turned true true c = refl
+    turned true false c = refl
+    turned false b c = refl
 
 keys-rows : (k : Key) (es : List (Key × Unit {0})) → list_any (is_same (row_of_key k)) (map (λ e. row_of_key e.0) es) ≡ list_any (same_key k) (keys_of es)
 keys-rows k [] = refl
@@ -104,11 +104,11 @@ row_in-at bottom (x ∷ xs) ys (suc i) node row e at = row_in-at bottom xs (x �
 
 pub row_in-rows_of : (bottom : ℕ) (es : List (Key × Unit {0})) (i : ℕ) (k : Key) → slice_get (keys_of es) i ≡ Some k → row_in bottom (rows_of es) (i + 2) ≡ row_of_key k
 row_in-rows_of bottom es i k e = row_in-at bottom (map (λ e. row_of_key e.0) es) [] i (i + 2) (row_of_key k) (mapped es i e) (omega arith)
-    where
-      mapped : (xs : List (Key × Unit {0})) (j : ℕ) → slice_get (keys_of xs) j ≡ Some k → slice_get (map (λ e. row_of_key e.0) xs) j ≡ Some (row_of_key k)
-      mapped [] j h = absurd (cc)
-      mapped (x ∷ xs) zero h = let f : Some x.0 ≡ Some k = h in ap (λ y. Some (row_of_key y)) (cc)
-      mapped (x ∷ xs) (suc j) h = mapped xs j h
+  where
+    mapped : (xs : List (Key × Unit {0})) (j : ℕ) → slice_get (keys_of xs) j ≡ Some k → slice_get (map (λ e. row_of_key e.0) xs) j ≡ Some (row_of_key k)
+    mapped [] j h = absurd (cc)
+    mapped (x ∷ xs) zero h = let f : Some x.0 ≡ Some k = h in ap (λ y. Some (row_of_key y)) (cc)
+    mapped (x ∷ xs) (suc j) h = mapped xs j h
 
 pub row_in-entry : (bottom : ℕ) (es : List (Key × Unit {0})) (i : ℕ) (k : Key) (u : Unit {0}) → Some (k, u) ≡ slice_get es i → row_in bottom (rows_of es) (i + 2) ≡ row_of_key k
 row_in-entry bottom es i k u e = row_in-rows_of bottom es i k (slice_get-map (λ e. e.0) es i ∙ ap (option_map (λ e. e.0)) (sym e))
@@ -117,18 +117,19 @@ row_in-entry bottom es i k u e = row_in-rows_of bottom es i k (slice_get-map (λ
 pub has_place : (old new : List (Key × Unit {0})) (k : Key) (place : ℕ) → new ≡ insert_entry same_key old k tt → place ≡ position_or_len (same_key k) (keys_of old)
     → HasPlace (row_of_key k) (rows_of old) (rows_of new) place
 has_place old new k place e p = by (placed old k)
-    where
-      len : length (rows_of old) ≡ length old
-      len = length-reverse (map (λ e. row_of_key e.0) old) ∙ length-map old (λ e. row_of_key e.0)
-      by : Fresh old k ⊎ Known old k → HasPlace (row_of_key k) (rows_of old) (rows_of new) place
-      by (inl f) = inr (record {
-        once = has_row-rows_of k old ∙ f.once;
-        more = ap rows_of (e ∙ f.more) ∙ ap reverse (map-append (λ e. row_of_key e.0) old ((k, tt) ∷ [])) ∙ reverse-append (map (λ e. row_of_key e.0) old) (row_of_key k ∷ []);
-        last = p ∙ f.last ∙ sym len;
-      })
-      by (inr f) = inl (record {
-        had = has_row-rows_of k old ∙ f.had;
-        same = ap rows_of (e ∙ f.same);
-        within = omega (arith, f.within, len);
-        there = λ bottom. ap (λ n. row_in bottom (rows_of old) (n + 2)) p ∙ row_in-rows_of bottom old (position_or_len (same_key k) (keys_of old)) k f.there;
-      })
+  where
+    len : length (rows_of old) ≡ length old
+    len = length-reverse (map (λ e. row_of_key e.0) old) ∙ length-map old (λ e. row_of_key e.0)
+
+    by : Fresh old k ⊎ Known old k → HasPlace (row_of_key k) (rows_of old) (rows_of new) place
+    by (inl f) = inr (record {
+      once = has_row-rows_of k old ∙ f.once;
+      more = ap rows_of (e ∙ f.more) ∙ ap reverse (map-append (λ e. row_of_key e.0) old ((k, tt) ∷ [])) ∙ reverse-append (map (λ e. row_of_key e.0) old) (row_of_key k ∷ []);
+      last = p ∙ f.last ∙ sym len;
+    })
+    by (inr f) = inl (record {
+      had = has_row-rows_of k old ∙ f.had;
+      same = ap rows_of (e ∙ f.same);
+      within = omega (arith, f.within, len);
+      there = λ bottom. ap (λ n. row_in bottom (rows_of old) (n + 2)) p ∙ row_in-rows_of bottom old (position_or_len (same_key k) (keys_of old)) k f.there;
+    })

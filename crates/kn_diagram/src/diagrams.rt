@@ -6,11 +6,10 @@ ghost use Rattle.kn_diagram.specs.Widths.{IsWidest};
 ghost use Rattle.kn_diagram.specs.Traces.{connective, AreExplained, Gains, IsRight, Explains};
 ghost use Rattle.kn_diagram.specs.Diagrams.{IsNode, function_of, depth_of, depth_in, is_true_by, asks, IsBranch, IsCanonical, HasNodes, IsTable, IsSplit, IsMade, Keeps};
 
-use crate::{DiagramError, Node, Trace};
 use crate::joint::{Joint, decided};
 use crate::memo::Memo;
 use crate::rows::Rows;
-use crate::width;
+use crate::{DiagramError, Node, Trace, width};
 use kn_logic::{Assignment, Constraint, Lit, NoMemory};
 use std::alloc::{AllocError, Global};
 use std::marker::Model;
@@ -58,9 +57,7 @@ impl Diagrams {
         ensures kept { Keeps self.old self.new }
         ensures node { IfOk result (λ w. IsNode self.new w) }
         ensures depth { IfOk result (λ w. depth_in self.old.order var ≤ depth_of self.new w) }
-        ensures function {
-            IfOk result (λ w. (v : ℕ → Bool) → function_of self.new w v ≡ (if v var then function_of self.old high v else function_of self.old low v))
-        }
+        ensures function { IfOk result (λ w. (v : ℕ → Bool) → function_of self.new w v ≡ (if v var then function_of self.old high v else function_of self.old low v)) }
     {
         let depth = depth_in(&self.order, var);
         self.make_at(depth, high, low)
@@ -94,9 +91,7 @@ impl Diagrams {
         ensures kept { Keeps self.old self.new }
         ensures node { IfOk result (λ w. IsNode self.new w) }
         ensures depth { IfOk result (λ w. min (depth_of self.old f) (depth_of self.old g) ≤ depth_of self.new w) }
-        ensures function {
-            IfOk result (λ w. (v : ℕ → Bool) → function_of self.new w v ≡ (function_of self.old f v && function_of self.old g v))
-        }
+        ensures function { IfOk result (λ w. (v : ℕ → Bool) → function_of self.new w v ≡ (function_of self.old f v && function_of self.old g v)) }
         ensures traced { IfOk result (λ w. Explains (λ a b. a && b) self.new trace.old trace.new (record { u = f; v = g; w = w })) }
         ensures err { OnErr result (trace.new ≡ trace.old) }
     {
@@ -110,9 +105,7 @@ impl Diagrams {
         ensures kept { Keeps self.old self.new }
         ensures node { IfOk result (λ w. IsNode self.new w) }
         ensures depth { IfOk result (λ w. min (depth_of self.old f) (depth_of self.old g) ≤ depth_of self.new w) }
-        ensures function {
-            IfOk result (λ w. (v : ℕ → Bool) → function_of self.new w v ≡ (function_of self.old f v || function_of self.old g v))
-        }
+        ensures function { IfOk result (λ w. (v : ℕ → Bool) → function_of self.new w v ≡ (function_of self.old f v || function_of self.old g v)) }
         ensures traced { IfOk result (λ w. Explains (λ a b. a || b) self.new trace.old trace.new (record { u = f; v = g; w = w })) }
         ensures err { OnErr result (trace.new ≡ trace.old) }
     {
@@ -302,7 +295,8 @@ fn depth_in(order: &[u64], var: u64) -> usize
 fn asks(lits: &[Lit], var: u64, positive: bool) -> bool
     ensures { result ≡ asks lits.now var positive }
 {
-    lits.iter().any(|lit| lit.var() == var && lit.is_positive() == positive)
+    lits.iter()
+        .any(|lit| lit.var() == var && lit.is_positive() == positive)
 }
 
 // The constant "true" where a test holds, and else the node.

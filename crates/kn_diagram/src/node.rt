@@ -37,4 +37,3 @@ impl Node {
         self.number
     }
 }
-

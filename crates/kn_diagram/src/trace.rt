@@ -1,9 +1,9 @@
+ghost use Rattle.std.specs.Prelude.{◌≡◌, ◌++◌, [], OnOk, OnErr};
+
 use crate::Node;
 use kn_logic::NoMemory;
 use std::alloc::Global;
 use std::marker::Model;
-
-ghost use Rattle.std.specs.Prelude.{◌≡◌, ◌++◌, [], OnOk, OnErr};
 
 /// A pair of nodes that was met, and the result for it.
 #[derive(Clone, Copy, Debug)]

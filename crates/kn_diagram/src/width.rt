@@ -53,9 +53,7 @@ fn pass_on(d: &Diagrams, marks: &mut Vec<bool>, number: usize)
     requires first { 2 ≤ number }
     requires there { IsNode d.now number }
     requires within { number < length marks.old.items }
-    ensures {
-        marks.new.items ≡ (if slice_index_or marks.old.items number false then slice_set (slice_set marks.old.items (high_of d.now number) true) (low_of d.now number) true else marks.old.items)
-    }
+    ensures { marks.new.items ≡ (if slice_index_or marks.old.items number false then slice_set (slice_set marks.old.items (high_of d.now number) true) (low_of d.now number) true else marks.old.items) }
 {
     if !marks[number] {
         return;

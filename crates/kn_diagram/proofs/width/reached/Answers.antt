@@ -1,4 +1,4 @@
-use Rattle.std.proofs.Common.{ℕ, ◌≡◌, ◌+◌, ◌-◌, ◌≤◌, ◌∙◌, sym, ap, subst, suc, arith, rules, replicate, slice_set, false, true, List, Bool, length}
+use Rattle.std.proofs.Common.{◌≡◌, ◌+◌, ◌-◌, ◌∙◌, sym, ap, subst, suc, arith, rules, replicate, slice_set, false, true, length}
 use Rattle.std.proofs.lemmas.List.{length-replicate}
 use Rattle.kn_diagram.proofs.WidthLemmas.{Marks, at, at-none, marks-first, marks-step, marks-last}
 use Rattle.kn_diagram.proofs.width.reached.Goals as goal
@@ -14,7 +14,7 @@ pub loop-number-preserved : goal.loop-number-preserved
 loop-number-preserved c =
     let next : c.loop-number.number ≡ suc (c.loop-number.number - 1) = omega arith in
     marks-step c.args.d.now c.args.f c.loop-number.number (c.loop-number.number - 1) c.loop-number.marks.items c.pass_on.new.marks.items
-      c.count_to.ensures.table c.requires c.loop-number.invariant c.loop-number-test.true next c.pass_on.ensures
+    c.count_to.ensures.table c.requires c.loop-number.invariant c.loop-number-test.true next c.pass_on.ensures
 
 pub returns-clause-marks : goal.returns-clause-marks
 returns-clause-marks c = marks-last c.args.d.now c.args.f c.loop-number.number c.loop-number.marks.items c.loop-number.invariant (omega arith)

@@ -1,4 +1,3 @@
-use Rattle.std.proofs.Common.{◌≡◌}
 use Rattle.kn_diagram.proofs.WidthLemmas.{Marks}
 use Rattle.kn_diagram.proofs.width.reached.Given as goal
 

@@ -1,4 +1,4 @@
-use Rattle.std.proofs.Common.{ℕ, ◌≡◌, ◌+◌, ◌-◌, ◌<◌, ◌≤◌, ◌∙◌, sym, ap, subst, suc, arith, rules, replicate, slice_set, slice_index, List, Bool, length}
+use Rattle.std.proofs.Common.{◌≡◌, ◌+◌, ◌<◌, ◌≤◌, ◌∙◌, sym, ap, arith, rules, replicate, slice_index, length}
 use Rattle.std.proofs.lemmas.List.{get_or-replicate, length-replicate}
 use Rattle.std.proofs.lemmas.Grind.{get_or_default_zero}
 use Rattle.kn_diagram.specs.Widths.{reached_below}
@@ -12,8 +12,8 @@ loop-number-init c =
       within = omega arith;
       len = ap length e ∙ length-replicate c.height.result 0 ∙ c.height.ensures.len;
       widths = λ k h.
-        (λ i. slice_index (e i) k) ∙ get_or-replicate c.height.result k 0 0 (omega (arith, c.height.ensures.len))
-        ∙ sym (reached_below-constants c.args.d.now c.args.f k h);
+          (λ i. slice_index (e i) k) ∙ get_or-replicate c.height.result k 0 0 (omega (arith, c.height.ensures.len))
+          ∙ sym (reached_below-constants c.args.d.now c.args.f k h);
     }
 
 pub overflow_add-index_mut : goal.overflow_add-index_mut
@@ -21,9 +21,9 @@ overflow_add-index_mut c =
     let two : 2 ≤ c.new.result = omega arith in
     let within : c.depth-depth.result < length c.args.d.now.order = c.depth-depth.ensures.branch two in
     let now : c.index_mut.result.now ≡ reached_below c.args.d.now c.args.f c.depth-depth.result c.loop-number.number =
-          c.index_mut.ensures.value
-          ∙ get_or_default_zero c.loop-number.widths.items c.depth-depth.result c.index_mut.result.now (omega (arith, c.loop-number.invariant.len, within))
-          ∙ c.loop-number.invariant.widths c.depth-depth.result within in
+    c.index_mut.ensures.value
+    ∙ get_or_default_zero c.loop-number.widths.items c.depth-depth.result c.index_mut.result.now (omega (arith, c.loop-number.invariant.len, within))
+    ∙ c.loop-number.invariant.widths c.depth-depth.result within in
     omega (arith, now, reached_below-within c.args.d.now c.args.f c.depth-depth.result c.loop-number.number)
 
 pub returns-clause-widths : goal.returns-clause-widths

@@ -1,5 +1,5 @@
 use Rattle.std.proofs.Common.{◌≡◌, ◌<◌, ◌∙◌, sym, ap, subst, length, arith, rules}
-use Rattle.kn_diagram.specs.Diagrams.{row_in, depth_of, IsTable}
+use Rattle.kn_diagram.specs.Diagrams.{depth_of, IsTable}
 use Rattle.kn_diagram.proofs.NodeLemmas.{depth_of-constant, depth_of-branch}
 use Rattle.kn_diagram.proofs.diagrams.Diagrams.depth.Goals as goal
 
@@ -19,6 +19,6 @@ pub returns-clause-branch : goal.returns-clause-branch
 unfolding depth_of
 returns-clause-branch c two =
     let own : c.row-depth.result.0 ≡ depth_of c.args.self.now c.args.node =
-          sym (ap (λ r. r.depth) (c.row-depth.ensures (length c.self.inside.order.items)))
-          ∙ (λ i. depth_of (c.self.view_is i) (c.number-number.ensures i)) in
+    sym (ap (λ r. r.depth) (c.row-depth.ensures (length c.self.inside.order.items)))
+    ∙ (λ i. depth_of (c.self.view_is i) (c.number-number.ensures i)) in
     omega (arith, own, depth_of-branch c.args.self.now c.args.node (subst IsTable c.self.view_is c.self.invariant) c.requires two)

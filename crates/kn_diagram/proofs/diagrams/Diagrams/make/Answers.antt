@@ -8,7 +8,7 @@ pub returns-clause-function : goal.returns-clause-function
 returns-clause-function c =
     let e : c.depth_in-depth.result ≡ depth_in c.args.self.now.order c.args.var = search rules in
     let at : slice_index c.args.self.now.order c.depth_in-depth.result ≡ c.args.var =
-          ap (slice_index c.args.self.now.order) e ∙ slice_index-depth_in c.args.self.now.order c.args.var c.requires.within in
+    ap (slice_index c.args.self.now.order) e ∙ slice_index-depth_in c.args.self.now.order c.args.var c.requires.within in
     IfOk-weaker c.make_at.result _ _
-      (λ w m v. m.function v ∙ (λ i. if v (at i) then function_of c.args.self.now c.args.high v else function_of c.args.self.now c.args.low v))
-      c.make_at.ensures.made
+    (λ w m v. m.function v ∙ (λ i. if v (at i) then function_of c.args.self.now c.args.high v else function_of c.args.self.now c.args.low v))
+    c.make_at.ensures.made

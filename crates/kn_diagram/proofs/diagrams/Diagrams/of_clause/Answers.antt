@@ -1,6 +1,6 @@
-use Rattle.std.proofs.Common.{ℕ, ◌≡◌, ◌+◌, ◌-◌, ◌<◌, ◌≤◌, ◌∙◌, sym, ap, subst, suc, Bool, List, length, slice_index, arith, rules, lit<, if◌then◌else◌, true, false}
+use Rattle.std.proofs.Common.{ℕ, ◌≡◌, ◌-◌, ◌<◌, ◌∙◌, sym, ap, subst, suc, length, slice_index, arith, rules, lit<, if◌then◌else◌, true, false}
 use Rattle.std.proofs.lemmas.Grind.{get_or_default_zero}
-use Rattle.kn_diagram.specs.Diagrams.{Table, IsNode, function_of, depth_of, IsTable, Keeps, asks}
+use Rattle.kn_diagram.specs.Diagrams.{Table, depth_of, IsTable, asks}
 use Rattle.kn_diagram.proofs.NodeLemmas.{Keeps-self, Keeps-along, depth_of-constant}
 use Rattle.kn_diagram.proofs.ClauseLemmas.{AreIn, some_from, IsChosen, chosen, some_from-none, some_from-more}
 use Rattle.kn_diagram.proofs.diagrams.Diagrams.of_clause.Goals as goal
@@ -20,12 +20,12 @@ loop-depth-init c =
 pub make_at-requires-clause-above_high : goal.make_at-requires-clause-above_high
 make_at-requires-clause-above_high c =
     (chosen c.loop-depth.self c.loop-depth.node (c.loop-depth.depth - 1) c.true_or-high.result c.asks.result c.true_or-high.ensures
-      c.loop-depth.invariant.there (omega (arith, c.loop-depth.invariant.within)) (omega (arith, c.loop-depth.invariant.below))).below
+    c.loop-depth.invariant.there (omega (arith, c.loop-depth.invariant.within)) (omega (arith, c.loop-depth.invariant.below))).below
 
 pub make_at-requires-clause-above_low : goal.make_at-requires-clause-above_low
 make_at-requires-clause-above_low c =
     (chosen c.loop-depth.self c.loop-depth.node (c.loop-depth.depth - 1) c.true_or-low.result c.asks-in-loop-depth.result c.true_or-low.ensures
-      c.loop-depth.invariant.there (omega (arith, c.loop-depth.invariant.within)) (omega (arith, c.loop-depth.invariant.below))).below
+    c.loop-depth.invariant.there (omega (arith, c.loop-depth.invariant.within)) (omega (arith, c.loop-depth.invariant.below))).below
 
 pub returns-in_err-node-clause-kept : goal.returns-in_err-node-clause-kept
 returns-in_err-node-clause-kept c = Keeps-along _ _ _ c.loop-depth.invariant.kept c.make_at.ensures.kept
@@ -40,15 +40,15 @@ loop-depth-preserved c =
     let in_order : k < length d.order = omega (arith, inv.within) in
     let below : k < depth_of d c.loop-depth.node = omega (arith, inv.below) in
     let up : IsChosen d c.loop-depth.node k c.true_or-high.result (asks c.args.c.now.lits c.index-var.result.now true) =
-          chosen d c.loop-depth.node k c.true_or-high.result (asks c.args.c.now.lits c.index-var.result.now true)
-            (c.true_or-high.ensures ∙ (λ i. if (c.asks.ensures ∙ (λ j. asks (inv.lits j) c.index-var.result.now true)) i then 1 else c.loop-depth.node)) inv.there in_order below in
+    chosen d c.loop-depth.node k c.true_or-high.result (asks c.args.c.now.lits c.index-var.result.now true)
+    (c.true_or-high.ensures ∙ (λ i. if (c.asks.ensures ∙ (λ j. asks (inv.lits j) c.index-var.result.now true)) i then 1 else c.loop-depth.node)) inv.there in_order below in
     let down : IsChosen d c.loop-depth.node k c.true_or-low.result (asks c.args.c.now.lits c.index-var.result.now false) =
-          chosen d c.loop-depth.node k c.true_or-low.result (asks c.args.c.now.lits c.index-var.result.now false)
-            (c.true_or-low.ensures ∙ (λ i. if (c.asks-in-loop-depth.ensures ∙ (λ j. asks (inv.lits j) c.index-var.result.now false)) i then 1 else c.loop-depth.node)) inv.there in_order below in
+    chosen d c.loop-depth.node k c.true_or-low.result (asks c.args.c.now.lits c.index-var.result.now false)
+    (c.true_or-low.ensures ∙ (λ i. if (c.asks-in-loop-depth.ensures ∙ (λ j. asks (inv.lits j) c.index-var.result.now false)) i then 1 else c.loop-depth.node)) inv.there in_order below in
     let len : length c.self-in-loop-depth.inside.order.items ≡ length d.order = λ i. length (c.self-in-loop-depth.view_is i).order in
     let variable : c.index-var.result.now ≡ slice_index d.order k =
-          c.index-var.ensures ∙ get_or_default_zero c.self-in-loop-depth.inside.order.items k c.index-var.result.now (omega (arith, len, in_order))
-          ∙ (λ i. slice_index (c.self-in-loop-depth.view_is i).order k) in
+    c.index-var.ensures ∙ get_or_default_zero c.self-in-loop-depth.inside.order.items k c.index-var.result.now (omega (arith, len, in_order))
+    ∙ (λ i. slice_index (c.self-in-loop-depth.view_is i).order k) in
     let table : IsTable d = subst IsTable c.self-in-loop-depth.view_is c.self-in-loop-depth.invariant in
     let within : AreIn d.order c.args.c.now.lits = subst (λ o. AreIn o c.args.c.now.lits) (sym inv.kept.order) c.requires.within in
     record {
@@ -58,5 +58,5 @@ loop-depth-preserved c =
       below = m.depth_is;
       lits = inv.lits;
       means = some_from-more d c.make_at.new.self c.args.c.now.lits c.loop-depth.node k c.true_or-high.result c.true_or-low.result c.in_ok-node.node c.index-var.result.now
-        table.order within in_order (λ v. inv.means v ∙ (λ i. some_from d.order (next i) c.args.c.now.lits v)) variable up down c.make_at.ensures.kept m;
+          table.order within in_order (λ v. inv.means v ∙ (λ i. some_from d.order (next i) c.args.c.now.lits v)) variable up down c.make_at.ensures.kept m;
     }

@@ -1,6 +1,6 @@
 use Rattle.std.proofs.Common.{ℕ, ◌≡◌, ◌≤◌, Bool, length}
 use Rattle.kn_diagram.specs.Diagrams.{IsNode, function_of, depth_of, Keeps}
-use Rattle.kn_diagram.proofs.ClauseLemmas.{some_from, AreIn}
+use Rattle.kn_diagram.proofs.ClauseLemmas.{some_from}
 use Rattle.kn_diagram.proofs.diagrams.Diagrams.of_clause.Given as goal
 
 abbrev pub invariant-loop-depth : goal.invariant-loop-depth

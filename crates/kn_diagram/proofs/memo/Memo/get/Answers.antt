@@ -1,4 +1,4 @@
-use Rattle.std.proofs.Common.{◌≡◌, ◌∙◌, sym, ap, Some}
+use Rattle.std.proofs.Common.{◌∙◌, sym, ap, Some}
 use Rattle.kn_diagram.specs.Traces.{found}
 use Rattle.kn_diagram.proofs.MemoLemmas.{found-lookup}
 use Rattle.kn_diagram.proofs.memo.Memo.get.Goals as goal

@@ -1,4 +1,4 @@
-use Rattle.std.proofs.Common.{ℕ, ◌≡◌, ◌+◌, ◌-◌, ◌∙◌, sym, arith}
+use Rattle.std.proofs.Common.{◌≡◌, ◌+◌, ◌-◌, ◌∙◌, sym, arith}
 use Rattle.kn_diagram.specs.Diagrams.{row_in}
 use Rattle.kn_diagram.proofs.PlaceLemmas.{row_in-entry}
 use Rattle.kn_diagram.proofs.rows.Rows.row.Goals as goal
