@@ -12,6 +12,8 @@ mod joint;
 mod memo;
 mod node;
 mod rows;
+#[cfg(test)]
+mod tests;
 mod trace;
 mod width;
 
