@@ -1,0 +1,7 @@
+pub mod RowLemmas
+pub mod MemoLemmas
+pub mod PlaceLemmas
+pub mod NodeLemmas
+pub mod JoinLemmas
+pub mod ClauseLemmas
+pub mod WidthLemmas

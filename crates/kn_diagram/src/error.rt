@@ -1,0 +1,23 @@
+ghost use Rattle.kn_diagram.specs.declared.error.DiagramError.TheVariants.{Memory};
+
+use kn_logic::NoMemory;
+
+/// Why an operation on diagrams gave no node.
+#[derive(Clone, Copy, Debug, PartialEq, Eq)]
+pub enum DiagramError {
+    /// The result's function is wide at this variable.
+    Wide { level: u64 },
+
+    /// Memory ran out.
+    Memory,
+}
+
+impl From<NoMemory> for DiagramError {
+    ghost use Rattle.std.specs.Prelude.{◌≡◌};
+
+    ghost from_gives = { λ _ e. e ≡ Memory };
+
+    fn from(_e: NoMemory) -> DiagramError {
+        DiagramError::Memory
+    }
+}
