@@ -1,2 +1,3 @@
-pub mod Rows
 pub mod Complete
+mod Examples
+pub mod Rows
