@@ -4,6 +4,7 @@
 //! in `specs/Grammar`, its first fault in `specs/Faults`, and the texts that are written in `specs/Texts`.
 #![tactic(auto)]
 
+pub mod cause;
 mod error;
 mod format;
 mod header;

@@ -1,5 +1,5 @@
 /// What comes next among the words of the constraints.
-#[derive(Clone, Copy, Debug, PartialEq, Eq)]
+#[derive(Clone, Copy, PartialEq, Eq)]
 pub enum Place {
     /// A constraint begins, or the text ends.
     Between,

@@ -6,6 +6,7 @@ ghost use Rattle.kn_format.specs.Grammar.{Spells, SpellsNone};
 ghost use Rattle.kn_format.specs.Faults.{is_percent, IsFirstFault};
 ghost use Rattle.kn_format.specs.Reading.{Gives, after_lines, read_of, ReadsAs, RefusesAs, IfRefused};
 
+use crate::cause;
 use crate::error::ReadError;
 use crate::header::problem_line;
 use crate::reader::{Reader, refused};
@@ -76,7 +77,7 @@ fn read(alloc: Global, bytes: &[u8]) -> Result<Formula, ReadError>
             Ok(header) => read_lines(Reader::new(alloc, header), number, rest),
             Err(why) => Err(refused(number, why)),
         },
-        Err(lines) => Err(refused(lines, 1)),
+        Err(lines) => Err(refused(lines, cause::NO_HEADER)),
     }
 }
 

@@ -8,6 +8,7 @@ ghost use Rattle.kn_format.specs.Reading.{Took, Gives, is_marked};
 ghost use Rattle.kn_format.specs.declared.place.Place.TheVariants.{Between, Guard, Bound, Clause, Klause};
 ghost use Rattle.kn_format.specs.declared.error.ReadError.TheVariants.{Refused};
 
+use crate::cause;
 use crate::error::{ReadError, Refusal};
 use crate::format::Format;
 use crate::header::Header;
@@ -186,7 +187,7 @@ impl Reader {
         ensures { Took line (begin self.old place nothing) result self.new }
     {
         if self.is_full() {
-            return Err(refused(line, 9));
+            return Err(refused(line, cause::EXTRA_CONSTRAINT));
         }
         self.begin_marked(place);
         Ok(())
@@ -196,10 +197,10 @@ impl Reader {
         ensures { Took line (first_literal self.old lit) result self.new }
     {
         if self.is_above(lit) {
-            return Err(refused(line, 6));
+            return Err(refused(line, cause::VARIABLE_ABOVE_HEADER));
         }
         if self.is_full() {
-            return Err(refused(line, 9));
+            return Err(refused(line, cause::EXTRA_CONSTRAINT));
         }
         self.begin();
         self.add(lit)?;
@@ -210,7 +211,7 @@ impl Reader {
         ensures { Took line (empty_clause self.old) result self.new }
     {
         if self.is_full() {
-            return Err(refused(line, 9));
+            return Err(refused(line, cause::EXTRA_CONSTRAINT));
         }
         self.begin();
         self.complete()?;
@@ -229,7 +230,7 @@ impl Reader {
         match literal(word) {
             Some(lit) => self.begin_clause(line, lit),
             None if is_end(word) => self.empty_clause(line),
-            None => Err(refused(line, 5)),
+            None => Err(refused(line, cause::BAD_TOKEN)),
         }
     }
 
@@ -237,10 +238,10 @@ impl Reader {
         ensures { Took line (guard self.old (literal_of word.now)) result self.new }
     {
         let Some(lit) = literal(word) else {
-            return Err(refused(line, 5));
+            return Err(refused(line, cause::BAD_TOKEN));
         };
         if self.is_above(lit) {
-            return Err(refused(line, 6));
+            return Err(refused(line, cause::VARIABLE_ABOVE_HEADER));
         }
         self.set_guard(lit)?;
         Ok(())
@@ -251,10 +252,10 @@ impl Reader {
         ensures { Took line (bound self.old (number_of word.now)) result self.new }
     {
         let Some(bound) = number(word) else {
-            return Err(refused(line, 5));
+            return Err(refused(line, cause::BAD_TOKEN));
         };
         if bound > 1_000_000 {
-            return Err(refused(line, 7));
+            return Err(refused(line, cause::BOUND_TOO_LARGE));
         }
         self.set_bound(bound);
         Ok(())
@@ -265,7 +266,7 @@ impl Reader {
         ensures { Took line (end self.old word.now) result self.new }
     {
         if !is_end(word) {
-            return Err(refused(line, 5));
+            return Err(refused(line, cause::BAD_TOKEN));
         }
         self.complete()?;
         Ok(())
@@ -279,7 +280,7 @@ impl Reader {
             return self.end(line, word);
         };
         if self.is_above(lit) {
-            return Err(refused(line, 6));
+            return Err(refused(line, cause::VARIABLE_ABOVE_HEADER));
         }
         self.add(lit)?;
         Ok(())
@@ -293,10 +294,10 @@ impl Reader {
             return self.end(line, word);
         };
         if self.is_above(lit) {
-            return Err(refused(line, 6));
+            return Err(refused(line, cause::VARIABLE_ABOVE_HEADER));
         }
         if !self.add_different(lit)? {
-            return Err(refused(line, 8));
+            return Err(refused(line, cause::REPEATED_VARIABLE));
         }
         Ok(())
     }
@@ -331,10 +332,10 @@ impl Reader {
         ensures { Gives (at_end lines self) result }
     {
         if self.place != Place::Between {
-            return Err(refused(lines, 10));
+            return Err(refused(lines, cause::UNENDED));
         }
         if !self.is_full() {
-            return Err(refused(lines, 11));
+            return Err(refused(lines, cause::MISSING_CONSTRAINT));
         }
         Ok(self.formula)
     }

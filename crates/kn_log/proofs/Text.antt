@@ -33,7 +33,7 @@ runs_of_logged : (lines : List Line) (number : ℕ) (old last : ProofState) → 
 runs_of_logged [] number old last s h = s
 runs_of_logged (line ∷ lines) number old last s h = (s.0, (line, h.0, s.1), runs_of_logged lines (number + 1) s.0 last s.2 h.1)
 
-header_is_spelled : (f : Problem) → f.vars < 2 ^ 64 → length f.constraints < 2 ^ 64 → IsSpelled (header_of f)
+pub header_is_spelled : (f : Problem) → f.vars < 2 ^ 64 → length f.constraints < 2 ^ 64 → IsSpelled (header_of f)
 header_is_spelled f v c = written_words_spell (Header f.vars (length f.constraints)) tt (v, c)
 
 pub written_steps : (f : Problem) (lines : List Line) (last : ProofState) → f.vars < 2 ^ 64 → length f.constraints < 2 ^ 64 → StepsBy (start f) lines last → AreSpelled lines → Steps f (lines_bytes (header_of f ∷ lines)) last

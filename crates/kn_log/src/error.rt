@@ -1,7 +1,6 @@
 ghost use Rattle.std.specs.Prelude.{◌≡◌};
-ghost use Rattle.kn_log.specs.declared.error.LogError.TheVariants.{Fault, Memory};
+ghost use Rattle.kn_log.specs.declared.error.LogError.TheVariants.{Memory};
 
-use kn_bytes::WriteFault;
 use std::alloc::AllocError;
 
 /// Why a line was not logged.
@@ -18,13 +17,5 @@ impl From<AllocError> for LogError {
 
     fn from(_: AllocError) -> LogError {
         LogError::Memory
-    }
-}
-
-impl From<WriteFault> for LogError {
-    ghost from_gives = { λ _ e. e ≡ Fault };
-
-    fn from(_: WriteFault) -> LogError {
-        LogError::Fault
     }
 }

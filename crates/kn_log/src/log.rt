@@ -48,7 +48,9 @@ impl Log {
         };
         let text = write_line(alloc, &header)?;
         let checker = Checker::new(alloc, f)?;
-        write_all(sink, &text)?;
+        if write_all(sink, &text).is_err() {
+            return Err(LogError::Fault);
+        }
         Ok(Log {
             checker,
             text,

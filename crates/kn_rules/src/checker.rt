@@ -1,5 +1,4 @@
-ghost use Rattle.std.specs.Prelude.{◌≡◌, ◌≤◌, ◌+◌, ◌^◌, IfOk, IsOk, IsErr, IfErr, IsTrue, ◌↔◌, length, map, OnOk, OnErr, option_copied, IfSome, Ok, Err, if◌then◌else◌};
-ghost use Rattle.kn_logic.specs.Literals.{AreKnown};
+ghost use Rattle.std.specs.Prelude.{◌≡◌, ◌≤◌, ◌+◌, ◌^◌, length, map, Ok, Err, IfOk, IfSome, IsOk, OnOk, OnErr, option_copied, if◌then◌else◌};
 ghost use Rattle.kn_logic.specs.Constraints.{clause, IsWithin};
 ghost use Rattle.kn_lines.specs.Lines.{IsWellFormed};
 ghost use Rattle.kn_rules.specs.States.{start, from_file, live_at};
@@ -143,6 +142,13 @@ impl Checker {
         ensures { result ≡ self.now.refuted }
     {
         self.refuted
+    }
+
+    /// What the ids stand for, that of id 1 first.
+    pub fn given(&self) -> &[Given]
+        ensures { result.now ≡ self.now.given }
+    {
+        &self.given
     }
 
     /// The constraint of an id; `None` exactly where the id was not given or is deleted.

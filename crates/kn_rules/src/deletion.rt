@@ -1,4 +1,4 @@
-ghost use Rattle.std.specs.Prelude.{◌≡◌, ◌≤◌, [], Ok, Err, true, false, IfSome, IfNone, IsOk, length, vec_capacity, vec_len};
+ghost use Rattle.std.specs.Prelude.{◌≡◌, ◌≤◌, [], Ok, Err, true, false, IfSome, IfNone, IsOk, length, vec_capacity};
 ghost use Rattle.kn_rules.specs.States.{given_at, live_at};
 ghost use Rattle.kn_rules.specs.Steps.{without, deleted};
 ghost use Rattle.kn_rules.specs.Restoring.{put, restored};

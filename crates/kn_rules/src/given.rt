@@ -1,8 +1,3 @@
-ghost use Rattle.std.specs.Prelude.{◌≡◌, option_copied};
-ghost use Rattle.std.specs.Option.{is_some};
-ghost use Rattle.kn_rules.specs.States.{live_at};
-ghost use Rattle.kn_rules.specs.Steps.{hinted};
-
 use kn_logic::Constraint;
 
 /// What gave an id.

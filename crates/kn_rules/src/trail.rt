@@ -1,5 +1,5 @@
-ghost use Rattle.std.specs.Prelude.{◌≡◌, ◌++◌, ◌∷◌, [], List, length, take, filter, map, IfOk, OnOk, OnErr};
-ghost use Rattle.kn_logic.specs.Literals.{Literal, IsKnown, AreKnown, negated, has};
+ghost use Rattle.std.specs.Prelude.{◌≡◌, ◌++◌, ◌∷◌, [], List, length, filter, IfOk, OnOk, OnErr};
+ghost use Rattle.kn_logic.specs.Literals.{Literal, IsKnown, AreKnown, has};
 ghost use Rattle.kn_logic.specs.Propagation.{is_open};
 ghost use Rattle.kn_rules.specs.Marks.{IsMarked, is_marked, marked, is_unopposed};
 
