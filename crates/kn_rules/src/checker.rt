@@ -1,4 +1,4 @@
-ghost use Rattle.std.specs.Prelude.{◌≡◌, ◌≤◌, ◌+◌, ◌^◌, length, map, Ok, Err, IfOk, IfSome, option_copied, if◌then◌else◌};
+ghost use Rattle.std.specs.Prelude.{◌≡◌, ◌≤◌, ◌+◌, ◌^◌, length, map, Ok, Err, IfOk, IfSome, IsOk, OnOk, OnErr, option_copied, if◌then◌else◌};
 ghost use Rattle.kn_logic.specs.Constraints.{clause, IsWithin};
 ghost use Rattle.kn_lines.specs.Lines.{IsWellFormed};
 ghost use Rattle.kn_rules.specs.States.{start, from_file, live_at};
@@ -6,7 +6,7 @@ ghost use Rattle.kn_rules.specs.Steps.{are_known, follow, deleted, with_given, s
 ghost use Rattle.kn_rules.specs.Feeding.{Feeds};
 ghost use Rattle.kn_rules.specs.declared.checker.FeedError.TheVariants.{Memory};
 
-use crate::deletion::{put_back, take_out};
+use crate::deletion::{discard, put_back, take_out};
 use crate::hints::follows;
 use crate::ids::{are_live, live};
 use crate::trail::Trail;
@@ -96,6 +96,25 @@ impl Checker {
         }
     }
 
+    /// Takes a line that is known to step, and tests nothing again: no hint is run and no id is looked up
+    /// before. It fails only where memory is wanting, and the state is as before then.
+    pub fn accept(&mut self, line: Line) -> Result<(), NoMemory>
+        requires formed { IsWellFormed line }
+        requires steps { IsOk (step self.old line) }
+        ensures ok { OnOk result (step self.old line ≡ Ok self.new) }
+        ensures err { OnErr result (self.new ≡ self.old) }
+    {
+        match line {
+            Line::Header { .. } => unreachable!(),
+            Line::Lemma { clause, hints } => self.keep(Origin::Lemma, clause, hints.ids()),
+            Line::Learned { clause, hints } => self.keep(Origin::Learned, clause, hints.ids()),
+            Line::Delete { ids } => {
+                self.discard(ids.ids());
+                Ok(())
+            }
+        }
+    }
+
     /// Whether the lines so far are a whole proof: `Err` holds the cause 9 exactly where none of them gave
     /// the clause without literals.
     pub fn finish(&self) -> Result<(), u8>
@@ -159,6 +178,30 @@ impl Checker {
         })?;
         self.refuted = self.refuted | lits.is_empty();
         Ok(())
+    }
+
+    /// Gives the next id to a clause that follows by these hints.
+    fn keep(&mut self, origin: Origin, c: Constraint, hints: &[u64]) -> Result<(), NoMemory>
+        requires formed { c ≡ clause c.lits }
+        requires steps { IsOk (follow self.old origin c.lits hints.now) }
+        ensures ok { OnOk result (follow self.old origin c.lits hints.now ≡ Ok self.new) }
+        ensures err { OnErr result (self.new ≡ self.old) }
+    {
+        let refutes = c.lits().is_empty();
+        self.given.push(Given {
+            origin,
+            live: Some(c),
+        })?;
+        self.refuted = self.refuted | refutes;
+        Ok(())
+    }
+
+    /// Deletes ids, each of which is live when its turn comes.
+    fn discard(&mut self, ids: &[u64])
+        requires { IsOk (deleted self.old.given ids.now) }
+        ensures { with_given self.old (deleted self.old.given ids.now) ≡ Ok self.new }
+    {
+        discard(&mut self.given, ids);
     }
 
     fn delete(&mut self, ids: &[u64]) -> Result<(), FeedError>

@@ -1,4 +1,4 @@
-ghost use Rattle.std.specs.Prelude.{◌≡◌, ◌≤◌, [], Ok, Err, true, false, IfSome, IfNone, length, vec_capacity};
+ghost use Rattle.std.specs.Prelude.{◌≡◌, ◌≤◌, [], Ok, Err, true, false, IfSome, IfNone, IsOk, length, vec_capacity};
 ghost use Rattle.kn_rules.specs.States.{given_at, live_at};
 ghost use Rattle.kn_rules.specs.Steps.{without, deleted};
 ghost use Rattle.kn_rules.specs.Restoring.{put, restored};
@@ -25,6 +25,18 @@ pub fn take_out(given: &mut [Given], ids: &[u64], taken: &mut Vec<Constraint>) -
         };
     }
     true
+}
+
+/// Deletes the ids, each of which is live when its turn comes.
+pub fn discard(given: &mut [Given], ids: &[u64])
+    requires { IsOk (deleted given.old ids.now) }
+    ensures { deleted given.old ids.now ≡ Ok given.new }
+{
+    for id in ids {
+        let Some(_c) = take(given, *id) else {
+            unreachable!()
+        };
+    }
 }
 
 /// Puts the constraints back under the first of the ids.

@@ -1,0 +1,5 @@
+use Rattle.kn_log.proofs.Text.{written_learned}
+use Rattle.kn_log.proofs.laws.learned_lines_are_counted.Goals as goal
+
+pub returns : goal.returns
+returns c = written_learned

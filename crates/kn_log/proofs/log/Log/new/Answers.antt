@@ -1,0 +1,15 @@
+use Rattle.std.proofs.Common.{◌<◌, ◌^◌, length, arith, rules}
+use Rattle.kn_log.proofs.Text.{header_is_spelled}
+use Rattle.kn_log.proofs.log.Log.new.Goals as goal
+
+pub returns-then-is_err-clause-readable : goal.returns-then-is_err-clause-readable
+returns-then-is_err-clause-readable g c =
+    let vars : c.args.f.now.vars < 2 ^ 64 = omega arith in
+    let counted : length c.args.f.now.constraints < 2 ^ 64 = search rules in
+    header_is_spelled c.args.f.now vars counted
+
+pub returns-clause-readable : goal.returns-clause-readable
+returns-clause-readable g c =
+    let vars : c.args.f.now.vars < 2 ^ 64 = omega arith in
+    let counted : length c.args.f.now.constraints < 2 ^ 64 = search rules in
+    header_is_spelled c.args.f.now vars counted

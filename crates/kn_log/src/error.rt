@@ -1,0 +1,21 @@
+ghost use Rattle.std.specs.Prelude.{◌≡◌};
+ghost use Rattle.kn_log.specs.declared.error.LogError.TheVariants.{Memory};
+
+use std::alloc::AllocError;
+
+/// Why a line was not logged.
+#[derive(Clone, Copy, Debug, PartialEq, Eq)]
+pub enum LogError {
+    /// The sink failed before it had the whole line.
+    Fault,
+    /// Want of memory.
+    Memory,
+}
+
+impl From<AllocError> for LogError {
+    ghost from_gives = { λ _ e. e ≡ Memory };
+
+    fn from(_: AllocError) -> LogError {
+        LogError::Memory
+    }
+}

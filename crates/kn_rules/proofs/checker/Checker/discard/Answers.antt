@@ -1,0 +1,14 @@
+use Rattle.std.proofs.Common.{◌≡◌, Ok, length, sym, subst, rules}
+use Rattle.kn_logic.specs.Constraints.{IsWithin}
+use Rattle.kn_rules.specs.Steps.{deleted}
+use Rattle.kn_rules.proofs.Deleting.{AllLive, deleted-still, written}
+use Rattle.kn_rules.proofs.checker.Checker.discard.Goals as goal
+
+pub invariant_of-self : goal.invariant_of-self
+invariant_of-self c =
+    let len : length c.discard.new.given ≡ c.self.inside.given.len = search rules in
+    let stepped : deleted c.self.inside.given.items c.args.ids.now ≡ Ok c.discard.new.given = search rules in
+    record {
+      trail = c.self.invariant.trail;
+      within = subst (AllLive (IsWithin c.self.inside.vars)) (sym (written _ _ _ len)) (deleted-still (IsWithin c.self.inside.vars) c.args.ids.now _ _ c.self.invariant.within stepped);
+    }
