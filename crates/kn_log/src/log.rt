@@ -37,7 +37,7 @@ impl Log {
     pub fn new<S: Sink>(alloc: Global, f: &Formula, sink: &mut S) -> Result<Log, LogError>
         requires { f.now.vars ≤ 2 ^ 32 }
         ensures opens { Opens f.now (S.written sink.old) (S.written sink.new) result }
-        ensures readable { IsReadable result (header_of f.now) }
+        ensures spelled { IsReadable result (header_of f.now) }
         ensures counted { length f.now.constraints < 2 ^ 64 }
         ensures later { S.faults sink.old ≤ S.faults sink.new }
         ensures fault { IsErrOf result LogError.Fault → Rose (S.faults sink.old) (S.faults sink.new) }
@@ -71,7 +71,7 @@ impl Log {
         requires steps { IsOk (step self.old.state (Lemma clause hints)) }
         ensures logs { Logs (Lemma clause hints) self.old self.new (S.written sink.old) (S.written sink.new) result }
         ensures id { IfOk result (λ id. id ≡ length self.old.state.given + 1) }
-        ensures readable { IsReadable result (Lemma clause hints) }
+        ensures spelled { IsReadable result (Lemma clause hints) }
         ensures later { S.faults sink.old ≤ S.faults sink.new }
         ensures fault { IsErrOf result LogError.Fault → Rose (S.faults sink.old) (S.faults sink.new) }
     {
@@ -92,7 +92,7 @@ impl Log {
         requires steps { IsOk (step self.old.state (Learned clause hints)) }
         ensures logs { Logs (Learned clause hints) self.old self.new (S.written sink.old) (S.written sink.new) result }
         ensures id { IfOk result (λ id. id ≡ length self.old.state.given + 1) }
-        ensures readable { IsReadable result (Learned clause hints) }
+        ensures spelled { IsReadable result (Learned clause hints) }
         ensures later { S.faults sink.old ≤ S.faults sink.new }
         ensures fault { IsErrOf result LogError.Fault → Rose (S.faults sink.old) (S.faults sink.new) }
     {
@@ -108,7 +108,7 @@ impl Log {
         requires formed { IsWellFormed (Delete ids) }
         requires steps { IsOk (step self.old.state (Delete ids)) }
         ensures logs { Logs (Delete ids) self.old self.new (S.written sink.old) (S.written sink.new) result }
-        ensures readable { IsReadable result (Delete ids) }
+        ensures spelled { IsReadable result (Delete ids) }
         ensures later { S.faults sink.old ≤ S.faults sink.new }
         ensures fault { IsErrOf result LogError.Fault → Rose (S.faults sink.old) (S.faults sink.new) }
     {
@@ -157,7 +157,7 @@ impl Log {
         requires formed { IsWellFormed line }
         requires steps { IsOk (step self.old.state line) }
         ensures logs { Logs line self.old self.new (S.written sink.old) (S.written sink.new) result }
-        ensures readable { IsReadable result line }
+        ensures spelled { IsReadable result line }
         ensures later { S.faults sink.old ≤ S.faults sink.new }
         ensures fault { IsErrOf result LogError.Fault → Rose (S.faults sink.old) (S.faults sink.new) }
     {
