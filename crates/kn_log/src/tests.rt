@@ -21,12 +21,7 @@ fn contradiction(alloc: Global) -> Result<Formula, NoMemory>
 }
 
 // adds the clause without literals, as a lemma or as a learned clause
-fn refute(
-    alloc: Global,
-    log: &mut Log,
-    learned: bool,
-    sink: &mut MemSink,
-) -> Result<u64, LogError>
+fn refute(alloc: Global, log: &mut Log, learned: bool, sink: &mut MemSink) -> Result<u64, LogError>
     requires { log.old ≡ fresh (record { vars = 1; constraints = klause 1 (record { variable = 1; positive = true } ∷ []) ∷ klause 1 (record { variable = 1; positive = false } ∷ []) ∷ [] }) }
 {
     let clause = Constraint::new(1, Vec::new(alloc));
@@ -77,7 +72,10 @@ fn a_sink_fails(rt: HostRuntime) -> Result<(), Fail> {
     let Ok(mut log) = Log::new(alloc, &f, &mut sink) else {
         return Err("the header is written".into());
     };
-    assert_eq!(rt; refute(alloc, &mut log, true, &mut sink), Err(LogError::Fault));
+    assert_eq!(rt;
+        refute(alloc, &mut log, true, &mut sink),
+        Err(LogError::Fault)
+    );
     assert!(rt; log.failed());
     assert_eq!(rt; sink.written(), b"p kpf 1 2\nl 0 1 ".as_slice());
     Ok(())
