@@ -12,3 +12,6 @@ mod log;
 pub use error::LogError;
 pub use laws::{adding_joins, learned_lines_are_counted, written_proof_is_read};
 pub use log::Log;
+
+#[cfg(test)]
+mod tests;
