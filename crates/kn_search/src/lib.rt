@@ -1,0 +1,11 @@
+//! The search for a model or a refutation of a formula: it decides literals, propagates, and learns a clause of
+//! each conflict, until the formula is satisfied or refuted or its budget of learned clauses is spent. Each learned
+//! clause is logged with its hints before it is used, so that whatever the search answers its proof steps.
+//! The definitions stand in `specs/`: the trail and what its entries owe to their reasons (`Trails`), and what an
+//! outcome says (`Outcomes`).
+#![tactic(auto)]
+
+mod outcome;
+mod trail;
+
+pub use outcome::{Options, Outcome, SearchError};

@@ -1,0 +1,30 @@
+use kn_logic::Assignment;
+
+/// How far a search goes.
+#[derive(Clone, Copy, Debug)]
+pub struct Options {
+    /// The most clauses that are learned.
+    pub conflicts: u64,
+    /// How many learned clauses are kept at least before one may be forgotten; 0 where none is forgotten.
+    pub forget: u64,
+}
+
+/// What a search found.
+#[derive(Debug, Drop)]
+pub enum Outcome {
+    /// An assignment that satisfies the formula.
+    Model(Assignment),
+    /// The clause without literals was logged: there is no model.
+    Refuted,
+    /// As many clauses were learned as the options allow.
+    Spent { learned: u64 },
+}
+
+/// Why a search has no outcome.
+#[derive(Clone, Copy, Debug, PartialEq, Eq)]
+pub enum SearchError {
+    /// Want of memory.
+    Memory,
+    /// The sink of the proof failed.
+    WriteFault,
+}
