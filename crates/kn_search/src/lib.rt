@@ -9,3 +9,5 @@ mod outcome;
 mod trail;
 
 pub use outcome::{Options, Outcome, SearchError};
+mod searching;
+pub use searching::search;

@@ -1,3 +1,5 @@
-pub mod Complete
 mod Examples
+pub mod Options
+pub mod Solved
 pub mod Rows
+pub mod Complete

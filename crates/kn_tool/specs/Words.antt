@@ -1,7 +1,8 @@
 -- The words of a command line and the commands that they ask for.
-use Rattle.std.specs.Prelude.{ℕ, ◌≡◌, List, [], ◌∷◌, map, codes, Option, None, Some, option_map}
+use Rattle.std.specs.Prelude.{ℕ, ◌≡◌, ◌⊎◌, nat_lt, if◌then◌else◌, List, [], ◌∷◌, length, map, codes, Option, None, Some, option_map}
 use Rattle.std.specs.declared.vec.Vec.{Vec}
 use Rattle.std.specs.declared.alloc.Global.{Global}
+use Rattle.kn_text.specs.Numbers.{number_of}
 use Rattle.kn_tool.specs.declared.command.Command.{Command}
 use Rattle.kn_tool.specs.declared.command.Command.TheVariants as command
 use Rattle.kn_tool.specs.declared.command.Names.{Names}
@@ -9,16 +10,63 @@ use Rattle.kn_tool.specs.declared.command.Names.{Names}
 -- a command, with the names of its files
 pub data Asked : Type 0 where
   check : List ℕ → List ℕ → Asked
+  solve : List ℕ → List ℕ → ℕ → ℕ → Asked
 
 -- a word that may name a file
 abbrev pub IsName : List ℕ → Type 0
 IsName word = word ≡ [] → ⊥
 
+-- the value of a word of 1 to 18 digits
+abbrev pub count_of : List ℕ → Option ℕ
+count_of word = if nat_lt 18 (length word) then None else number_of word
+
+abbrev pub SpellsCount : List ℕ → ℕ → Type 0
+SpellsCount word count = count_of word ≡ Some count
+
+-- how many clauses are learned at most, and how many are kept at least
+abbrev pub default_conflicts : ℕ
+default_conflicts = 1000000
+
+abbrev pub default_forget : ℕ
+default_forget = 0
+
+abbrev pub SpellsConflicts : List ℕ → List ℕ → ℕ → Type 0
+SpellsConflicts option word conflicts = (option ≡ codes "--conflicts") × SpellsCount word conflicts
+
+abbrev pub SpellsForget : List ℕ → List ℕ → ℕ → Type 0
+SpellsForget option word forget = (option ≡ codes "--forget") × SpellsCount word forget
+
+-- one option; the other has its default
+abbrev pub SpellsOption : List ℕ → List ℕ → ℕ → ℕ → Type 0
+SpellsOption option word conflicts forget =
+    (SpellsConflicts option word conflicts × (forget ≡ default_forget)) ⊎ (SpellsForget option word forget × (conflicts ≡ default_conflicts))
+
+-- both options, in either order
+abbrev pub SpellsBoth : List ℕ → List ℕ → List ℕ → List ℕ → ℕ → ℕ → Type 0
+SpellsBoth option word other next conflicts forget =
+    (SpellsConflicts option word conflicts × SpellsForget other next forget) ⊎ (SpellsForget option word forget × SpellsConflicts other next conflicts)
+
+abbrev pub SpellsOptions : List (List ℕ) → ℕ → ℕ → Type 0
+SpellsOptions [] conflicts forget = (conflicts ≡ default_conflicts) × (forget ≡ default_forget)
+SpellsOptions (option ∷ word ∷ []) conflicts forget = SpellsOption option word conflicts forget
+SpellsOptions (option ∷ word ∷ other ∷ next ∷ []) conflicts forget = SpellsBoth option word other next conflicts forget
+SpellsOptions words conflicts forget = ⊥
+
 -- `check F P`
-abbrev pub HasShape : List (List ℕ) → Asked → Type 0
-HasShape (name ∷ f ∷ p ∷ []) (check formula proof) =
+abbrev pub AsksCheck : List (List ℕ) → List ℕ → List ℕ → Type 0
+AsksCheck (name ∷ f ∷ p ∷ []) formula proof =
     (name ≡ codes "check") × (f ≡ formula) × (p ≡ proof) × IsName formula × IsName proof
-HasShape words asked = ⊥
+AsksCheck words formula proof = ⊥
+
+-- `solve F P`, then options
+abbrev pub AsksSolve : List (List ℕ) → List ℕ → List ℕ → ℕ → ℕ → Type 0
+AsksSolve (name ∷ f ∷ p ∷ options) formula proof conflicts forget =
+    (name ≡ codes "solve") × (f ≡ formula) × (p ≡ proof) × IsName formula × IsName proof × SpellsOptions options conflicts forget
+AsksSolve words formula proof conflicts forget = ⊥
+
+abbrev pub HasShape : List (List ℕ) → Asked → Type 0
+HasShape words (check formula proof) = AsksCheck words formula proof
+HasShape words (solve formula proof conflicts forget) = AsksSolve words formula proof conflicts forget
 
 -- The words ask for no command.
 abbrev pub HasNoShape : List (List ℕ) → Type 0
@@ -30,6 +78,7 @@ texts words = map (λ word. word.items) words
 -- what a command asks for
 abbrev pub asked_by : Command → Asked
 asked_by (command.Check formula proof) = check formula.now proof.now
+asked_by (command.Solve formula proof conflicts forget) = solve formula.now proof.now conflicts forget
 
 -- the names of the files that a command opens; none where it does not use such a file
 pub record Named : Type 0 where
@@ -39,6 +88,7 @@ pub record Named : Type 0 where
 
 abbrev pub named_by : Asked → Named
 named_by (check formula proof) = record { formula = Some formula; proof_in = Some proof; proof_out = None }
+named_by (solve formula proof conflicts forget) = record { formula = Some formula; proof_in = None; proof_out = Some proof }
 
 abbrev pub no_names : Named
 no_names = record { formula = None; proof_in = None; proof_out = None }

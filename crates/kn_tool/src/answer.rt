@@ -19,6 +19,12 @@ pub enum Which {
 /// What the program answers. Lines count from 1; a line of 0 is one of an empty text.
 #[derive(Clone, Copy, Debug, PartialEq, Eq)]
 pub enum Answer {
+    /// The formula has a model, and one was written.
+    Model,
+    /// The formula has no model: the proof that was written says so.
+    Refuted,
+    /// As many clauses were learned as the words allow, and neither was found.
+    Unknown { learned: u64 },
     /// The proof is accepted, and so the formula has no model.
     Verified,
     /// The proof is not accepted: the first line that is wrong, and its cause.
@@ -43,7 +49,9 @@ impl Answer {
         ensures { result ≡ status_of self.now }
     {
         match self {
-            Answer::Verified => 0,
+            Answer::Model => 10,
+            Answer::Refuted => 20,
+            Answer::Unknown { .. } | Answer::Verified => 0,
             Answer::NotVerified { .. } => 30,
             Answer::Refused { .. } | Answer::TooLong { .. } => 1,
             Answer::Usage => 2,
@@ -54,12 +62,15 @@ impl Answer {
     }
 }
 
-/// The text of an answer; empty for those that have none.
+/// The text of an answer; empty for those that have none. That of a model goes on with the values.
 pub fn text_of(alloc: Global, answer: &Answer) -> Result<Vec<u8>, AllocError>
     ensures { IfOk result (λ text. text.items ≡ answer_text answer.now) }
 {
     let mut text = Vec::new(alloc);
     match answer {
+        Answer::Model => text.extend_from_slice(b"s SATISFIABLE\n")?,
+        Answer::Refuted => text.extend_from_slice(b"s UNSATISFIABLE\n")?,
+        Answer::Unknown { .. } => text.extend_from_slice(b"s UNKNOWN\n")?,
         Answer::Verified => text.extend_from_slice(b"s VERIFIED\n")?,
         Answer::NotVerified { line, why } => {
             text.extend_from_slice(b"c ")?;

@@ -1,12 +1,34 @@
-ghost use Rattle.std.specs.Prelude.{◌≡◌, ◌↔◌, IfSome, IfNone, IsTrue, codes};
-ghost use Rattle.kn_tool.specs.Words.{HasShape, HasNoShape, texts, asked_by};
+ghost use Rattle.std.specs.Prelude.{◌≡◌, ◌↔◌, ℕ, IfSome, IfNone, IsTrue, codes};
+ghost use Rattle.kn_tool.specs.Words.{HasShape, HasNoShape, SpellsOption, SpellsBoth, SpellsOptions, count_of, texts, asked_by};
+
+use kn_text::number;
 
 /// What the words of a command line ask for.
 #[derive(Clone, Copy, Debug)]
 pub enum Command<'a> {
     /// Check a proof for a formula: the names of the two files.
     Check { formula: &'a [u8], proof: &'a [u8] },
+    /// Find a model of a formula, or a proof that there is none, after at most so many learned clauses, of
+    /// which at least `forget` are kept; 0 where none is forgotten.
+    Solve {
+        formula: &'a [u8],
+        proof: &'a [u8],
+        conflicts: u64,
+        forget: u64,
+    },
 }
+
+/// The options of `solve`.
+#[derive(Clone, Copy, Debug)]
+struct Limits {
+    conflicts: u64,
+    forget: u64,
+}
+
+const DEFAULT_LIMITS: Limits = Limits {
+    conflicts: 1_000_000,
+    forget: 0,
+};
 
 /// The command that the words ask for; `None` exactly where they ask for none.
 pub fn parse<'a>(words: &'a [Vec<u8>]) -> Option<Command<'a>>
@@ -20,6 +42,17 @@ pub fn parse<'a>(words: &'a [Vec<u8>]) -> Option<Command<'a>>
                 proof: proof.as_slice(),
             })
         }
+        [name, formula, proof, options @ ..]
+            if is_solve(name) && !formula.is_empty() && !proof.is_empty() =>
+        {
+            let Limits { conflicts, forget } = limits_in(options)?;
+            Some(Command::Solve {
+                formula: formula.as_slice(),
+                proof: proof.as_slice(),
+                conflicts,
+                forget,
+            })
+        }
         _ => None,
     }
 }
@@ -28,6 +61,85 @@ fn is_check(word: &[u8]) -> bool
     ensures { IsTrue result ↔ (word.now ≡ codes "check") }
 {
     word == b"check".as_slice()
+}
+
+fn is_solve(word: &[u8]) -> bool
+    ensures { IsTrue result ↔ (word.now ≡ codes "solve") }
+{
+    word == b"solve".as_slice()
+}
+
+/// The limits that the options set; each stands there once at most, in either order.
+fn limits_in(options: &[Vec<u8>]) -> Option<Limits>
+    ensures some { IfSome result (λ l. SpellsOptions (texts options.now) l.conflicts l.forget) }
+    ensures none { IfNone result ((conflicts : ℕ) (forget : ℕ) → SpellsOptions (texts options.now) conflicts forget → ⊥) }
+{
+    match options {
+        [] => Some(DEFAULT_LIMITS),
+        [option, word] => one_limit(option, word),
+        [option, word, other, next] => two_limits(option, word, other, next),
+        _ => None,
+    }
+}
+
+fn one_limit(option: &[u8], word: &[u8]) -> Option<Limits>
+    ensures some { IfSome result (λ l. SpellsOption option.now word.now l.conflicts l.forget) }
+    ensures none { IfNone result ((conflicts : ℕ) (forget : ℕ) → SpellsOption option.now word.now conflicts forget → ⊥) }
+{
+    let count = count(word)?;
+    if is_conflicts(option) {
+        return Some(Limits {
+            conflicts: count,
+            ..DEFAULT_LIMITS
+        });
+    }
+    if is_forget(option) {
+        return Some(Limits {
+            forget: count,
+            ..DEFAULT_LIMITS
+        });
+    }
+    None
+}
+
+fn two_limits(option: &[u8], word: &[u8], other: &[u8], next: &[u8]) -> Option<Limits>
+    ensures some { IfSome result (λ l. SpellsBoth option.now word.now other.now next.now l.conflicts l.forget) }
+    ensures none { IfNone result ((conflicts : ℕ) (forget : ℕ) → SpellsBoth option.now word.now other.now next.now conflicts forget → ⊥) }
+{
+    let first = count(word)?;
+    let second = count(next)?;
+    if is_conflicts(option) && is_forget(other) {
+        return Some(Limits {
+            conflicts: first,
+            forget: second,
+        });
+    }
+    if is_forget(option) && is_conflicts(other) {
+        return Some(Limits {
+            conflicts: second,
+            forget: first,
+        });
+    }
+    None
+}
+
+fn is_conflicts(word: &[u8]) -> bool
+    ensures { IsTrue result ↔ (word.now ≡ codes "--conflicts") }
+{
+    word == b"--conflicts".as_slice()
+}
+
+fn is_forget(word: &[u8]) -> bool
+    ensures { IsTrue result ↔ (word.now ≡ codes "--forget") }
+{
+    word == b"--forget".as_slice()
+}
+
+/// The value of a word of 1 to 18 digits.
+fn count(word: &[u8]) -> Option<u64>
+    ensures { result ≡ count_of word.now }
+{
+    if word.len() > 18 { None } else { number(word) }
 }
 
 /// The names of the files that a command opens; `None` for a file that it does not use.

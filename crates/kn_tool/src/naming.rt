@@ -14,6 +14,11 @@ pub fn names<'a>(words: &'a [Vec<u8>]) -> Names<'a>
             proof_in: Some(proof),
             proof_out: None,
         },
+        Some(Command::Solve { formula, proof, .. }) => Names {
+            formula: Some(formula),
+            proof_in: None,
+            proof_out: Some(proof),
+        },
         None => Names {
             formula: None,
             proof_in: None,

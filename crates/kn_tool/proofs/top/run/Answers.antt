@@ -1,10 +1,18 @@
-use Rattle.kn_tool.proofs.Rows.{run_tells}
-use Rattle.kn_tool.proofs.Complete.{complete}
+use Rattle.kn_tool.specs.Changes.{sink_change}
+use Rattle.kn_tool.proofs.Rows.{reply_tells, told_usage}
+use Rattle.kn_tool.proofs.Complete.{decides, concludes}
 use Rattle.kn_tool.proofs.top.run.Goals as goal
 
 pub returns-clause-tells : goal.returns-clause-tells
-returns-clause-tells g c = run_tells _ _ _ _ _ _ c.decide-answer.ensures.row c.tell.ensures.told
+returns-clause-tells g c = reply_tells _ _ _ c.decide-reply.result _ c.decide-reply.ensures.reply c.tell.ensures.told
 
-pub returns-clause-complete : goal.returns-clause-complete
-returns-clause-complete g c = λ text more asked quiet.
-    complete _ _ _ _ _ (run_tells _ _ _ _ _ _ c.decide-answer.ensures.row c.tell.ensures.told) text more asked quiet
+pub returns-clause-usage : goal.returns-clause-usage
+returns-clause-usage g c = λ none. told_usage c.decide-reply.result (sink_change g.O.Sink.written g.O.Sink.faults c.args.out.now c.tell.new.out) _ (c.decide-reply.ensures.usage none) c.tell.ensures.told
+
+pub returns-clause-decides : goal.returns-clause-decides
+returns-clause-decides g c = λ text more asked sound sound_too quiet.
+    decides _ _ _ _ (reply_tells _ _ (sink_change g.O.Sink.written g.O.Sink.faults c.args.out.now c.tell.new.out) c.decide-reply.result _ c.decide-reply.ensures.reply c.tell.ensures.told) text more asked sound sound_too quiet
+
+pub returns-clause-concludes : goal.returns-clause-concludes
+returns-clause-concludes g c = λ text asked sound proof_quiet quiet.
+    concludes _ _ _ _ (reply_tells _ _ (sink_change g.O.Sink.written g.O.Sink.faults c.args.out.now c.tell.new.out) c.decide-reply.result _ c.decide-reply.ensures.reply c.tell.ensures.told) text asked sound proof_quiet quiet

@@ -1,0 +1,120 @@
+-- What was logged of a formula is a proof text as far as it goes, whatever the search answers.
+use Rattle.std.proofs.Common.{◌≡◌, ◌≤◌, ◌<◌, ◌+◌, ◌^◌, ◌++◌, ◌∷◌, Bool, true, List, ℕ, [], length, Option, refl, sym, ap, ◌∙◌, subst, inl, inr, append_assoc, append-nil, arith}
+use Rattle.kn_bytes.specs.Outside.{Rose, Got, GotPrefix}
+use Rattle.kn_bytes.proofs.Joined.{Got-append, Got-nil, GotPrefix-from_Got, GotPrefix-append}
+use Rattle.kn_logic.specs.Formulas.{Problem, Satisfies}
+use Rattle.kn_lines.specs.declared.line.Line.{Line}
+use Rattle.kn_rules.specs.States.{ProofState, start}
+use Rattle.kn_rules.specs.Proofs.{IsProof}
+use Rattle.kn_rules.proofs.Sound.{proof-refutes}
+use Rattle.kn_log.specs.Logs.{Logged, header_of, line_bytes, fresh}
+use Rattle.kn_log.specs.Written.{StepsBy, AreSpelled, lines_bytes, learned_in, learned_count}
+use Rattle.kn_log.proofs.Text.{written_steps, written_proof, written_learned}
+use Rattle.kn_log.proofs.Added.{lines_bytes-append}
+use Rattle.kn_search.specs.Outcomes.{Learns, Breaks, Tells, Ends, EndsNot}
+use Rattle.kn_search.specs.declared.outcome.Outcome.{Outcome}
+use Rattle.kn_search.specs.declared.outcome.Outcome.TheVariants as outcome
+use Rattle.kn_search.specs.declared.outcome.SearchError.{SearchError}
+use Rattle.kn_search.specs.declared.outcome.SearchError.TheVariants as failure
+use Rattle.kn_tool.specs.declared.answer.Answer.{Answer}
+use Rattle.kn_tool.specs.declared.answer.Answer.TheVariants.{Model, Refuted, Unknown, Usage, NoMemory}
+use Rattle.kn_tool.specs.declared.reply.Reply.{Reply}
+use Rattle.kn_tool.specs.declared.reply.Reply.TheVariants as reply
+use Rattle.kn_tool.specs.Answers.{answer_text}
+use Rattle.kn_tool.specs.Changes.{Change, Sink}
+use Rattle.kn_tool.specs.Solves.{IsStepping, Proves, GotSteps, SolvedRow, OutcomeSays, Finds, IsAnswerOf, IsReplyOf, IsSolvedReply, satisfiable_text}
+
+-- the formula is one whose header can be written
+pub record IsListed (f : Problem) : Type 0 where
+  pub vars : f.vars ≤ 2 ^ 32
+  pub count : length f.constraints < 2 ^ 64
+
+vars_fit : (n : ℕ) → n ≤ 2 ^ 32 → n < 2 ^ 64
+vars_fit n h = omega arith
+
+abbrev all_bytes : Problem → List Line → List ℕ
+all_bytes f lines = lines_bytes (header_of f ∷ lines)
+
+stepping : (f : Problem) (lines : List Line) (old last : ProofState) → IsListed f → old ≡ start f → StepsBy old lines last → AreSpelled lines → IsStepping f (all_bytes f lines)
+stepping f lines old last h is s k =
+    (last, written_steps f lines last (vars_fit f.vars h.vars) h.count (subst (λ (o : ProofState). StepsBy o lines last) is s) k)
+
+-- the header alone
+header_bytes : (f : Problem) → line_bytes (header_of f) ≡ all_bytes f []
+header_bytes f = sym (append-nil (line_bytes (header_of f)))
+
+pub header_fails : (f : Problem) (p : Change Sink) → IsListed f → GotPrefix p.old.written p.new.written (line_bytes (header_of f)) → GotSteps f p
+header_fails f p h got =
+    (all_bytes f [], stepping f [] (start f) (start f) h refl refl tt, subst (λ bytes. GotPrefix p.old.written p.new.written bytes) (header_bytes f) got)
+
+pub no_header : (f : Problem) (p : Change Sink) → IsListed f → p.new.written ≡ p.old.written → GotSteps f p
+no_header f p h same =
+    (all_bytes f [], stepping f [] (start f) (start f) h refl refl tt,
+      subst (λ w. GotPrefix p.old.written w (all_bytes f [])) (sym same) (GotPrefix-from_Got p.old.written p.old.written [] (all_bytes f []) (Got-nil p.old.written)))
+
+-- what was logged behind the header
+pub record IsBehind (f : Problem) (p : Change Sink) (old : Logged) (mid : Option (List ℕ)) : Type 0 where
+  pub listed : IsListed f
+  pub begun : old.state ≡ start f
+  pub header : Got p.old.written mid (line_bytes (header_of f))
+
+pub memory_ends : (f : Problem) (p : Change Sink) (old new : Logged) (mid : Option (List ℕ)) → IsBehind f p old mid → EndsNot old new mid p.new.written failure.Memory → GotSteps f p
+memory_ends f p old new mid h (learned, learns, whole) =
+    let got : Got p.old.written p.new.written (all_bytes f learns.lines) =
+    Got-append p.old.written mid p.new.written (line_bytes (header_of f)) (lines_bytes learns.lines) h.header learns.got in
+    (all_bytes f learns.lines, stepping f learns.lines old.state new.state h.listed h.begun learns.steps learns.spelled,
+      (all_bytes f learns.lines, [], sym (append-nil (all_bytes f learns.lines)), got))
+
+pub fault_ends : (f : Problem) (p : Change Sink) (old new : Logged) (mid : Option (List ℕ)) → IsBehind f p old mid → EndsNot old new mid p.new.written failure.WriteFault → GotSteps f p
+fault_ends f p old new mid h (breaks, failed) =
+    let lines = breaks.lines ++ breaks.last ∷ [] in
+    let front = Got-append p.old.written mid breaks.got.0 (line_bytes (header_of f)) (lines_bytes breaks.lines) h.header breaks.got.1 in
+    let whole = GotPrefix-append p.old.written breaks.got.0 p.new.written (line_bytes (header_of f) ++ lines_bytes breaks.lines) (line_bytes breaks.last) front breaks.got.2 in
+    let is : (line_bytes (header_of f) ++ lines_bytes breaks.lines) ++ line_bytes breaks.last ≡ all_bytes f lines =
+    append_assoc (line_bytes (header_of f)) (lines_bytes breaks.lines) (line_bytes breaks.last)
+    ∙ ap (λ bytes. line_bytes (header_of f) ++ bytes) (ap (λ bytes. lines_bytes breaks.lines ++ bytes) (sym (append-nil (line_bytes breaks.last))) ∙ sym (lines_bytes-append breaks.lines (breaks.last ∷ []))) in
+    (all_bytes f lines, stepping f lines old.state new.state h.listed h.begun breaks.steps breaks.spelled,
+      subst (λ bytes. GotPrefix p.old.written p.new.written bytes) is whole)
+
+-- what an outcome says of the bytes
+says : (budget : ℕ) (f : Problem) (old new : Logged) (mid w : Option (List ℕ)) (o : Outcome) → IsListed f → old.state ≡ start f → (e : Ends f budget old new mid w o) → Tells f budget e.learned new.state o → OutcomeSays budget f (all_bytes f e.learns.lines) o
+says budget f old new mid w (outcome.Model values) h is e told = told
+says budget f old new mid w outcome.Refuted h is e told =
+    written_proof f e.learns.lines new.state (vars_fit f.vars h.vars) h.count (subst (λ (o : ProofState). StepsBy o e.learns.lines new.state) is e.learns.steps) e.learns.spelled told
+says budget f old new mid w (outcome.Spent learned) h is e told =
+    (told.0, written_learned f e.learns.lines (vars_fit f.vars h.vars) h.count e.learns.spelled ∙ e.learns.count ∙ told.1 ∙ sym told.0)
+
+pub outcome_found : (budget : ℕ) (f : Problem) (p : Change Sink) (old new : Logged) (mid : Option (List ℕ)) (o : Outcome) → IsBehind f p old mid → Ends f budget old new mid p.new.written o → Finds budget f p o
+outcome_found budget f p old new mid o h e =
+    let got : Got p.old.written p.new.written (all_bytes f e.learns.lines) =
+    Got-append p.old.written mid p.new.written (line_bytes (header_of f)) (lines_bytes e.learns.lines) h.header e.learns.got in
+    let count : learned_count (all_bytes f e.learns.lines) ≡ e.learned =
+    written_learned f e.learns.lines (vars_fit f.vars h.listed.vars) h.listed.count e.learns.spelled ∙ e.learns.count in
+    (all_bytes f e.learns.lines, record {
+      steps = stepping f e.learns.lines old.state new.state h.listed h.begun e.learns.steps e.learns.spelled;
+      got = got;
+      within = subst (λ n. n ≤ budget) (sym count) e.within;
+    }, says budget f old new mid p.new.written o h.listed h.begun e e.tells)
+
+-- the answer of an outcome
+row_of_outcome : (budget : ℕ) (f : Problem) (p : Change Sink) (bytes text : List ℕ) (o : Outcome) (answer : Answer) → Proves budget f p bytes → OutcomeSays budget f bytes o → IsAnswerOf o answer text → SolvedRow budget f p bytes answer text
+row_of_outcome budget f p bytes text (outcome.Model values) answer proves said (is, told) =
+    subst (λ a. SolvedRow budget f p bytes a text) (sym is) (proves, (values, said, told))
+row_of_outcome budget f p bytes text outcome.Refuted answer proves said (is, told) =
+    subst (λ a. SolvedRow budget f p bytes a text) (sym is) (proves, said, proof-refutes f bytes said, told)
+row_of_outcome budget f p bytes text (outcome.Spent learned) answer proves said (is, told) =
+    subst (λ a. SolvedRow budget f p bytes a text) (sym is) (proves, said.0, said.1, told)
+
+-- bytes that step and were written whole are a front of bytes that step
+pub proves_front : (budget : ℕ) (f : Problem) (p : Change Sink) (bytes : List ℕ) → Proves budget f p bytes → GotSteps f p
+proves_front budget f p bytes h = (bytes, h.steps, (bytes, [], sym (append-nil bytes), h.got))
+
+pub solved_reply : (budget : ℕ) (f : Problem) (p : Change Sink) (o : Outcome) (r : Reply) → Finds budget f p o → IsReplyOf o r → IsSolvedReply budget f p r
+solved_reply budget f p o (reply.Text answer text) (bytes, proves, said) told = (bytes, row_of_outcome budget f p bytes text.items o answer proves said told)
+solved_reply budget f p o reply.Usage found told = absurd told
+solved_reply budget f p o (reply.Silent answer) (bytes, proves, said) told =
+    subst (λ a. IsSolvedReply budget f p (reply.Silent a)) (sym told) (inr (proves_front budget f p bytes proves))
+
+-- faults
+pub rose_further : (old mid new : ℕ) → old ≤ mid → Rose mid new → Rose old new
+rose_further old mid new later rose = omega arith

@@ -1,0 +1,31 @@
+ghost use Rattle.kn_tool.specs.Outcomes.{IsPlain};
+
+use crate::Answer;
+use crate::answer::text_of;
+use std::alloc::Global;
+
+/// What is to be told of a command.
+#[derive(Debug, Drop)]
+pub enum Reply {
+    /// An answer, whose text is written first.
+    Text { answer: Answer, text: Vec<u8> },
+    /// The line that says how the program is called.
+    Usage,
+    /// An answer that has no text: nothing is written.
+    Silent { answer: Answer },
+}
+
+/// The reply of an answer that has a text of its own, or none.
+pub fn reply_of(alloc: Global, answer: Answer) -> Reply
+    ensures { IsPlain answer result }
+{
+    if let Answer::NoMemory = answer {
+        return Reply::Silent { answer };
+    }
+    match text_of(alloc, &answer) {
+        Ok(text) => Reply::Text { answer, text },
+        Err(_) => Reply::Silent {
+            answer: Answer::NoMemory,
+        },
+    }
+}

@@ -1,0 +1,108 @@
+ghost use Rattle.std.specs.Prelude.{◌≡◌, ◌≤◌, ◌^◌, IfOk, IfErr};
+ghost use Rattle.kn_tool.specs.Changes.{source_change, sink_change};
+ghost use Rattle.kn_tool.specs.Outcomes.{IsReply};
+ghost use Rattle.kn_tool.specs.Solves.{SolveRow, SolveStops, SolvedStops, Finds, IsReplyOf, IsSolvedReply, satisfiable_text};
+ghost use Rattle.kn_search.specs.declared.outcome.Outcome.TheVariants.{Model};
+
+use crate::answer::text_of;
+use crate::files::understand;
+use crate::reply::{Reply, reply_of};
+use crate::{Answer, Which};
+use kn_bytes::{Sink, Source};
+use kn_format::write_model;
+use kn_log::{Log, LogError};
+use kn_logic::{Assignment, Formula, NoMemory};
+use kn_search::{Options, Outcome, SearchError, search};
+use std::alloc::Global;
+
+/// The reply of `solve`: the formula is read and understood, then searched; each line of the proof is written as
+/// it is made.
+pub fn solve_file<F: Source, P: Sink>(
+    alloc: Global,
+    formula: &mut F,
+    proof: &mut P,
+    options: Options,
+) -> Reply
+    ensures reply { IsReply
+        (SolveRow options.conflicts (source_change F.left F.given F.faults formula.old formula.new) (sink_change P.written P.faults proof.old proof.new))
+        (SolveStops (source_change F.left F.given F.faults formula.old formula.new) (sink_change P.written P.faults proof.old proof.new)) result }
+    ensures later_formula { F.faults formula.old ≤ F.faults formula.new }
+    ensures later_proof { P.faults proof.old ≤ P.faults proof.new }
+{
+    match understand(alloc, formula) {
+        Ok(f) => solve_formula(alloc, &f, proof, options),
+        Err(answer) => reply_of(alloc, answer),
+    }
+}
+
+fn solve_formula<P: Sink>(alloc: Global, f: &Formula, proof: &mut P, options: Options) -> Reply
+    requires { f.now.vars ≤ 2 ^ 32 }
+    ensures reply { IsSolvedReply options.conflicts f.now (sink_change P.written P.faults proof.old proof.new) result }
+    ensures later { P.faults proof.old ≤ P.faults proof.new }
+{
+    match search_formula(alloc, f, proof, options) {
+        Ok(outcome) => reply_of_outcome(alloc, outcome),
+        Err(answer) => Reply::Silent { answer },
+    }
+}
+
+/// What a search finds, or the answer that has no text.
+fn search_formula<P: Sink>(
+    alloc: Global,
+    f: &Formula,
+    proof: &mut P,
+    options: Options,
+) -> Result<Outcome, Answer>
+    requires { f.now.vars ≤ 2 ^ 32 }
+    ensures found { IfOk result (Finds options.conflicts f.now (sink_change P.written P.faults proof.old proof.new)) }
+    ensures err { IfErr result (SolvedStops f.now (sink_change P.written P.faults proof.old proof.new)) }
+    ensures later { P.faults proof.old ≤ P.faults proof.new }
+{
+    let mut log = match Log::new(alloc, f, proof) {
+        Ok(log) => log,
+        Err(LogError::Memory) => return Err(Answer::NoMemory),
+        Err(LogError::Fault) => return Err(PROOF_FAULT),
+    };
+    match search(alloc, f, &mut log, proof, &options) {
+        Ok(outcome) => Ok(outcome),
+        Err(SearchError::Memory) => Err(Answer::NoMemory),
+        Err(SearchError::WriteFault) => Err(PROOF_FAULT),
+    }
+}
+
+const PROOF_FAULT: Answer = Answer::WriteFault {
+    which: Which::Proof,
+};
+
+fn reply_of_outcome(alloc: Global, outcome: Outcome) -> Reply
+    ensures { IsReplyOf outcome result }
+{
+    match outcome {
+        Outcome::Model(model) => reply_of_model(alloc, &model),
+        Outcome::Refuted => reply_of(alloc, Answer::Refuted),
+        Outcome::Spent { learned } => reply_of(alloc, Answer::Unknown { learned }),
+    }
+}
+
+fn reply_of_model(alloc: Global, model: &Assignment) -> Reply
+    ensures { IsReplyOf (Model model.now) result }
+{
+    match satisfiable_text(alloc, model) {
+        Ok(text) => Reply::Text {
+            answer: Answer::Model,
+            text,
+        },
+        Err(_) => Reply::Silent {
+            answer: Answer::NoMemory,
+        },
+    }
+}
+
+/// The answer, and the values on lines of their own.
+fn satisfiable_text(alloc: Global, model: &Assignment) -> Result<Vec<u8>, NoMemory>
+    ensures { IfOk result (λ text. text.items ≡ satisfiable_text model.now) }
+{
+    let mut text = text_of(alloc, &Answer::Model)?;
+    text.extend_from_slice(&write_model(alloc, model)?)?;
+    Ok(text)
+}
