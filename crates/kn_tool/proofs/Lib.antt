@@ -3,3 +3,4 @@ pub mod Options
 pub mod Solved
 pub mod Rows
 pub mod Complete
+pub mod Headline

@@ -50,6 +50,21 @@ abbrev pub Solves : ℕ → Change Source → Change Sink → Answer → List �
 Solves budget formula proof answer text =
     (f : Problem) × (bytes : List ℕ) × Accepts formula f × SolvedRow budget f proof bytes answer text
 
+-- The file spells a formula, the proof that was written is an accepted one, and so the formula has no model.
+abbrev pub Refutes : Change Source → Change Sink → Type 0
+Refutes formula proof =
+    (f : Problem) × (bytes : List ℕ) × Accepts formula f × Got proof.old.written proof.new.written bytes × IsProof f bytes × IsUnsatisfiable f
+
+-- The file spells a formula, and values were written that satisfy it.
+abbrev pub PrintsModel : Change Source → Change Sink → Type 0
+PrintsModel formula out =
+    (f : Problem) × (values : List Bool) × Accepts formula f × Satisfies values f × Got out.old.written out.new.written (satisfiable_text values)
+
+-- The file spells a formula, and the proof that was written steps and has so many learned clauses.
+abbrev pub Exhausts : ℕ → Change Source → Change Sink → Type 0
+Exhausts budget formula proof =
+    (f : Problem) × (bytes : List ℕ) × Accepts formula f × Got proof.old.written proof.new.written bytes × IsStepping f bytes × (learned_count bytes ≡ budget)
+
 -- what an answer that is told says of the file and of the proof that was written
 abbrev pub SolveRow : ℕ → Change Source → Change Sink → Answer → List ℕ → Type 0
 SolveRow budget formula proof Model text = Solves budget formula proof Model text

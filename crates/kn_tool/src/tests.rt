@@ -1,5 +1,8 @@
-use crate::{Answer, run};
+use crate::{Answer, Which, run};
 use kn_bytes::{MemSink, MemSource};
+use kn_format::read_formula;
+use kn_logic::{Assignment, satisfies};
+use kn_text::{first_line, first_word, literal};
 use std::alloc::{AllocError, Global};
 use std::test::Fail;
 
@@ -16,6 +19,7 @@ const PAIRS: &str = "p cnf 3 6\n-1 -2 0\n-1 -3 0\n-2 -3 0\n1 2 0\n1 3 0\n2 3 0\n
 struct Seen {
     answer: Answer,
     text: Vec<u8>,
+    proof: Vec<u8>,
 }
 
 /// A source of a text, in pieces of three bytes, that fails at its first call where `fails`.
@@ -30,25 +34,40 @@ fn source(alloc: Global, text: &str, fails: bool) -> Result<MemSource, AllocErro
 fn run_on(
     alloc: Global,
     words: &[&str],
+    formula: MemSource,
+    proof: MemSource,
+) -> Result<Seen, AllocError> {
+    let sink = MemSink::new(alloc, 4000, 4, Vec::new(alloc))?;
+    run_into(alloc, words, formula, proof, sink)
+}
+
+fn run_into(
+    alloc: Global,
+    words: &[&str],
     mut formula: MemSource,
     mut proof: MemSource,
+    mut written: MemSink,
 ) -> Result<Seen, AllocError> {
     let mut list = Vec::new(alloc);
     for word in words {
         list.push(Vec::from_slice(alloc, word.as_bytes())?)?;
     }
     let mut out = MemSink::new(alloc, 200, 7, Vec::new(alloc))?;
-    let mut unused = MemSink::new(alloc, 0, 1, Vec::new(alloc))?;
     let answer = run(
         alloc,
         &list,
         &mut formula,
         &mut proof,
         &mut out,
-        &mut unused,
+        &mut written,
     );
     let text = Vec::from_slice(alloc, out.written())?;
-    Ok(Seen { answer, text })
+    let proof = Vec::from_slice(alloc, written.written())?;
+    Ok(Seen {
+        answer,
+        text,
+        proof,
+    })
 }
 
 fn checked(alloc: Global, formula: &str, proof: &str) -> Result<Seen, AllocError> {
@@ -157,13 +176,22 @@ fn a_proof_that_is_cut_is_wrong_where_it_ends(rt: HostRuntime) -> Result<(), Fai
 
 #[test]
 fn other_words_have_the_usage_line(rt: HostRuntime) -> Result<(), Fail> {
-    let cases: [&[&str]; 6] = [
+    let cases: [&[&str]; 15] = [
         &[],
         &["check", "F"],
         &["check", "F", "P", "X"],
         &["-check", "F", "P"],
         &["check", "", "P"],
-        &["solve", "F", "P"],
+        &["solve", "F"],
+        &["solve", "F", ""],
+        &["solve", "F", "P", "X"],
+        &["solve", "F", "P", "--conflicts"],
+        &["solve", "F", "P", "--conflicts", "-1"],
+        &["solve", "F", "P", "--conflicts", "1000000000000000000"],
+        &["solve", "F", "P", "--conflicts", "1", "--conflicts", "2"],
+        &["solve", "F", "P", "--forget", "1", "--conflicts", ""],
+        &["solve", "F", "P", "--forget", "1", "--conflicts", "2", "X"],
+        &["extract", "F"],
     ];
     for words in cases {
         let formula = source(rt.alloc(), UNIT_FILE, true)?;
@@ -189,5 +217,130 @@ fn a_source_that_fails_is_named(rt: HostRuntime) -> Result<(), Fail> {
     let proof = source(rt.alloc(), UNIT_PROOF, true)?;
     let second = run_on(rt.alloc(), &["check", "F", "P"], formula, proof)?;
     assert_eq!(rt; second.text.as_slice(), b"c read fault proof\n".as_slice());
+    Ok(())
+}
+
+fn solved(alloc: Global, formula: &str, more: &[&str]) -> Result<Seen, AllocError> {
+    let mut words = Vec::new(alloc);
+    words.extend_from_slice(&["solve", "F", "P"])?;
+    words.extend_from_slice(more)?;
+    run_on(alloc, &words, source(alloc, formula, false)?, source(alloc, "", true)?)
+}
+
+/// Whether the values behind the first line of a text satisfy a formula.
+fn is_model(alloc: Global, formula: &str, text: &[u8]) -> Result<bool, AllocError> {
+    let Ok(f) = read_formula(alloc, formula.as_bytes()) else {
+        return Ok(false);
+    };
+    let mut m = Assignment::new(alloc, f.vars(), false)?;
+    let mut values = 0;
+    let mut rest = text;
+    while let Some((line, behind)) = first_line(rest) {
+        rest = behind;
+        let mut words = line;
+        while let Some((word, more)) = first_word(words) {
+            words = more;
+            let Some(lit) = literal(word) else {
+                continue;
+            };
+            if lit.var() <= f.vars() {
+                m.set(lit.var(), lit.is_positive());
+            }
+            values = lit.var();
+        }
+    }
+    Ok(values == f.vars() && satisfies(&f, &m))
+}
+
+/// Whether the proof that was written is accepted.
+fn is_proved(alloc: Global, formula: &str, proof: &[u8]) -> Result<bool, AllocError> {
+    let written = MemSource::new(Vec::from_slice(alloc, proof)?, 5, Vec::new(alloc));
+    let seen = run_on(
+        alloc,
+        &["check", "F", "P"],
+        source(alloc, formula, false)?,
+        written,
+    )?;
+    Ok(seen.answer == Answer::Verified)
+}
+
+#[test]
+fn solve_finds_models_and_proofs(rt: HostRuntime) -> Result<(), Fail> {
+    let cases = [
+        ("p cnf 0 0\n", Answer::Model),
+        ("p cnf 2 0\n", Answer::Model),
+        ("p cnf 1 2\n1 0\n-1 0\n", Answer::Refuted),
+        ("p cnf 2 1\n0\n", Answer::Refuted),
+        ("p knf 1 1\nk 0 1 0\n", Answer::Model),
+        ("p knf 1 1\nk 2 1 0\n", Answer::Refuted),
+        ("p knf 0 1\nk 0 0\n", Answer::Model),
+        ("p knf 4 2\nq 4 2 1 2 3 0\nk 2 -1 -2 -3 0\n", Answer::Model),
+        ("p knf 4 3\nq 4 2 1 2 3 0\n4 0\nk 2 -1 -2 -3 0\n", Answer::Refuted),
+        ("p knf 3 3\nq 3 2 1 2 0\n-1 0\n3 0\n", Answer::Refuted),
+        ("p knf 2 1\nq -1 3 2 0\n", Answer::Model),
+        (TWO_OF_THREE, Answer::Refuted),
+        (PAIRS, Answer::Refuted),
+        ("p knf 3 2\nk 2 1 2 3 0\nk 1 -1 -2 -3 0\n", Answer::Model),
+        ("p cnf 1 1\n1 1 1 0\n", Answer::Model),
+        ("p cnf 1 2\n1 1 0\n-1 -1 0\n", Answer::Refuted),
+        ("p cnf 2 2\n1 -1 0\n-2 0\n", Answer::Model),
+        ("p cnf 2 4\n1 2 0\n1 -2 0\n-1 2 0\n-1 -2 0\n", Answer::Refuted),
+        ("p cnf 2 3\n1 2 0\n1 -2 0\n-1 2 0\n", Answer::Model),
+        ("p cnf 3 3\n1 2 3 0\n-1 -2 0\n-3 1 0\n", Answer::Model),
+        (
+            "p cnf 3 8\n1 2 3 0\n1 2 -3 0\n1 -2 3 0\n1 -2 -3 0\n-1 2 3 0\n-1 2 -3 0\n-1 -2 3 0\n-1 -2 -3 0\n",
+            Answer::Refuted,
+        ),
+        (
+            "p cnf 3 7\n1 2 3 0\n1 2 -3 0\n1 -2 3 0\n1 -2 -3 0\n-1 2 3 0\n-1 2 -3 0\n-1 -2 3 0\n",
+            Answer::Model,
+        ),
+        (
+            "p knf 6 5\n1 2 0\n3 4 0\n5 6 0\nk 2 -1 -3 -5 0\nk 2 -2 -4 -6 0\n",
+            Answer::Refuted,
+        ),
+        ("p knf 4 2\nk 3 1 2 3 4 0\nk 1 -1 -2 -3 -4 0\n", Answer::Model),
+        ("p knf 4 2\nk 3 1 2 3 4 0\nk 2 -1 -2 -3 -4 0\n", Answer::Refuted),
+    ];
+    for (formula, want) in cases {
+        let seen = solved(rt.alloc(), formula, &[])?;
+        assert_eq!(rt; seen.answer, want, "{formula}");
+        assert_eq!(rt; is_model(rt.alloc(), formula, &seen.text)?, want == Answer::Model, "{formula}");
+        assert_eq!(rt; is_proved(rt.alloc(), formula, &seen.proof)?, want == Answer::Refuted, "{formula}");
+    }
+    Ok(())
+}
+
+#[test]
+fn solve_writes_its_texts(rt: HostRuntime) -> Result<(), Fail> {
+    let empty = solved(rt.alloc(), "p cnf 0 0\n", &[])?;
+    assert_eq!(rt; empty.text.as_slice(), b"s SATISFIABLE\nv 0\n".as_slice());
+    assert_eq!(rt; empty.proof.as_slice(), b"p kpf 0 0\n".as_slice());
+    assert_eq!(rt; empty.answer.status(), 10);
+    let refuted = solved(rt.alloc(), UNIT_FILE, &["--forget", "0", "--conflicts", "7"])?;
+    assert_eq!(rt; refuted.text.as_slice(), b"s UNSATISFIABLE\n".as_slice());
+    assert_eq!(rt; refuted.answer.status(), 20);
+    let unknown = solved(rt.alloc(), PAIRS, &["--conflicts", "0"])?;
+    assert_eq!(rt; unknown.text.as_slice(), b"s UNKNOWN\n".as_slice());
+    assert_eq!(rt; unknown.answer.status(), 0);
+    assert_eq!(rt; unknown.proof.as_slice(), b"p kpf 3 6\n".as_slice());
+    let refused = solved(rt.alloc(), "p cnf 1 1\n2 0\n", &[])?;
+    assert_eq!(rt; refused.text.as_slice(), b"c refused line 2 cause 6\n".as_slice());
+    assert_eq!(rt; refused.proof.len(), 0);
+    Ok(())
+}
+
+#[test]
+fn a_sink_of_the_proof_that_fails_is_named(rt: HostRuntime) -> Result<(), Fail> {
+    let mut failing = Vec::new(rt.alloc());
+    failing.push(2)?;
+    let sink = MemSink::new(rt.alloc(), 100, 4, failing)?;
+    let formula = source(rt.alloc(), UNIT_FILE, false)?;
+    let unused = source(rt.alloc(), "", true)?;
+    let seen = run_into(rt.alloc(), &["solve", "F", "P"], formula, unused, sink)?;
+    assert_eq!(rt; seen.answer, Answer::WriteFault { which: Which::Proof });
+    assert_eq!(rt; seen.answer.status(), 4);
+    assert_eq!(rt; seen.proof.as_slice(), b"p kp".as_slice());
+    assert_eq!(rt; seen.text.len(), 0);
     Ok(())
 }

@@ -2,7 +2,9 @@ ghost use Rattle.std.specs.Prelude.{◌≡◌, ◌≤◌, List, ℕ};
 ghost use Rattle.kn_tool.specs.Words.{HasNoShape, texts};
 ghost use Rattle.kn_tool.specs.Changes.{source_change, sink_change};
 ghost use Rattle.kn_tool.specs.Checks.{Verifies, CheckRow};
-ghost use Rattle.kn_tool.specs.Outcomes.{files_change, IsCheck, IsSolve, Row, Stops, Tells, IsReply, IsPlain, Told, Sent, AnswersUsage};
+ghost use Rattle.kn_tool.specs.declared.answer.Answer.TheVariants.{Unknown};
+ghost use Rattle.kn_tool.specs.Solves.{PrintsModel, Refutes, Exhausts};
+ghost use Rattle.kn_tool.specs.Outcomes.{files_change, IsCheck, IsSolve, IsSolveWithin, Row, Stops, Tells, IsReply, IsPlain, Told, Sent, AnswersUsage};
 ghost use Rattle.kn_tool.specs.Complete.{IsSound, IsQuiet, Decides, Concludes};
 
 use crate::answer::USAGE;
@@ -40,6 +42,17 @@ pub fn run<F: Source, Q: Source, O: Sink, P: Sink>(
     ensures verified { result ≡ Answer.Verified → Verifies
         (source_change F.left F.given F.faults formula.old formula.new)
         (source_change Q.left Q.given Q.faults proof_in.old proof_in.new) }
+    // The file spells a formula, and the values that were written satisfy it.
+    ensures model { result ≡ Answer.Model → PrintsModel
+        (source_change F.left F.given F.faults formula.old formula.new) (sink_change O.written O.faults out.old out.new) }
+    // The file spells a formula, the proof that was written is accepted for it, and so it has no model.
+    ensures refuted { result ≡ Answer.Refuted → Refutes
+        (source_change F.left F.given F.faults formula.old formula.new)
+        (sink_change P.written P.faults proof_out.old proof_out.new) }
+    // As many clauses were learned as the words allow, and the proof that was written has them all.
+    ensures unknown { (learned : ℕ) → result ≡ Unknown learned → IsSolveWithin (texts words.now) learned × Exhausts learned
+        (source_change F.left F.given F.faults formula.old formula.new)
+        (sink_change P.written P.faults proof_out.old proof_out.new) }
     ensures usage { HasNoShape (texts words.now) → AnswersUsage result }
     // Where nothing fails, the answer is what the texts say, unless memory is short.
     ensures decides { (text : List ℕ) (more : List ℕ) → IsCheck (texts words.now) →

@@ -1,6 +1,7 @@
 use Rattle.kn_tool.specs.Changes.{sink_change}
 use Rattle.kn_tool.proofs.Rows.{reply_tells, told_usage}
 use Rattle.kn_tool.proofs.Complete.{decides, concludes}
+use Rattle.kn_tool.proofs.Headline.{model, refuted, unknown}
 use Rattle.kn_tool.proofs.top.run.Goals as goal
 
 pub returns-clause-tells : goal.returns-clause-tells
@@ -16,3 +17,15 @@ returns-clause-decides g c = λ text more asked sound sound_too quiet.
 pub returns-clause-concludes : goal.returns-clause-concludes
 returns-clause-concludes g c = λ text asked sound proof_quiet quiet.
     concludes _ _ _ _ (reply_tells _ _ (sink_change g.O.Sink.written g.O.Sink.faults c.args.out.now c.tell.new.out) c.decide-reply.result _ c.decide-reply.ensures.reply c.tell.ensures.told) text asked sound proof_quiet quiet
+
+pub returns-clause-model : goal.returns-clause-model
+returns-clause-model g c =
+    model _ _ (sink_change g.O.Sink.written g.O.Sink.faults c.args.out.now c.tell.new.out) _ (reply_tells _ _ _ c.decide-reply.result _ c.decide-reply.ensures.reply c.tell.ensures.told)
+
+pub returns-clause-refuted : goal.returns-clause-refuted
+returns-clause-refuted g c =
+    refuted _ _ (sink_change g.O.Sink.written g.O.Sink.faults c.args.out.now c.tell.new.out) _ (reply_tells _ _ _ c.decide-reply.result _ c.decide-reply.ensures.reply c.tell.ensures.told)
+
+pub returns-clause-unknown : goal.returns-clause-unknown
+returns-clause-unknown g c =
+    unknown _ _ (sink_change g.O.Sink.written g.O.Sink.faults c.args.out.now c.tell.new.out) _ (reply_tells _ _ _ c.decide-reply.result _ c.decide-reply.ensures.reply c.tell.ensures.told)
