@@ -9,6 +9,7 @@ use Rattle.std.proofs.lemmas.Option.{same_Some}
 use Rattle.kn_logic.specs.Literals.{Literal, negated, is_same, has, places}
 use Rattle.kn_logic.specs.Constraints.{Bounded}
 use Rattle.kn_logic.specs.Propagation.{is_open, open_places, after_bound, after_guard, after_parts, after_hint, hint_run}
+use Rattle.kn_rules.proofs.Truth.{places-le, all-kept}
 use Rattle.kn_search.specs.Trails.{Forces}
 
 -- literals in a list
@@ -143,3 +144,116 @@ forces-guard trail c guard is e f h =
       has-right trail (negated guard ∷ []) (negated guard) (has-first (negated guard) [])
     )
 
+-- longer lists
+abbrev pub Covers : List Literal → List Literal → Type 0
+Covers small big = (l : Literal) → has small l ≡ true → has big l ≡ true
+
+-- of two runs: a conflict of the first is one of the second, and else the second has all literals of the
+-- first, if it is no conflict
+abbrev pub Grows : Option (List Literal) → Option (List Literal) → Type 0
+Grows None after = after ≡ None
+Grows (Some next) None = Unit {0}
+Grows (Some next) (Some more) = Covers next more
+
+Grows-less : (small big : List Literal) (after : Option (List Literal)) → Covers small big → Grows (Some big) after → Grows (Some small) after
+Grows-less small big None h k = tt
+Grows-less small big (Some next) h k = λ l e. k l (h l e)
+
+pub Covers-append : (small big more : List Literal) → Covers small big → Covers more big → Covers (small ++ more) big
+Covers-append small big more h k l e = elim (has-either small more l e) [ inl s ↦ h l s | inr t ↦ k l t ]
+
+-- what is not false in the longer list is not false in the shorter one
+open_shrinks : (small big : List Literal) → Covers small big → (l : Literal) → is_open big l ≡ true → is_open small l ≡ true
+open_shrinks small big h l e =
+    elim (cases_Bool (has small (negated l))) [
+      | inl s ↦ (let t = h (negated l) s in absurd cc)
+      | inr s ↦ not_from_false _ s
+    ]
+
+fewer_open : (small big : List Literal) (lits : List Literal) → Covers small big → open_places big lits ≤ open_places small lits
+fewer_open small big lits h = places-le (is_open big) (is_open small) (open_shrinks small big h) lits
+
+-- where just as many literals are not false, they are the same
+same_open : (small big lits : List Literal) → Covers small big → open_places small lits ≤ open_places big lits → Covers (filter (is_open small) lits) (filter (is_open big) lits)
+same_open small big lits h le l e =
+    has-filter (is_open big) lits l (has-filtered (is_open small) lits l e)
+    (All-has (λ x. is_open big x ≡ true) (filter (is_open small) lits) l (all-kept (is_open big) (is_open small) (open_shrinks small big h) lits le) e)
+
+-- a hint takes no literal away
+bound_keeps : (trail : List Literal) (bound : ℕ) (lits : List Literal) → Grows (Some trail) (after_bound trail bound lits)
+bound_keeps trail bound lits =
+    cond_both (ltb (open_places trail lits) bound) _ _ (Grows (Some trail))
+    (λ _. tt)
+    (λ _. cond_both (eqb (open_places trail lits) bound) _ _ (Grows (Some trail))
+    (λ _ l e. has-left trail (filter (is_open trail) lits) l e)
+    (λ _ l e. e))
+
+guard_keeps : (trail : List Literal) (guard : Literal) (bound : ℕ) (lits : List Literal) → Grows (Some trail) (after_guard trail guard bound lits)
+guard_keeps trail guard bound lits =
+    cond_both (has trail guard) _ _ (Grows (Some trail))
+    (λ _. bound_keeps trail bound lits)
+    (λ _. cond_both (has trail (negated guard)) _ _ (Grows (Some trail))
+    (λ _ l e. e)
+    (λ _. cond_both (ltb (open_places trail lits) bound) _ _ (Grows (Some trail))
+    (λ _ l e. has-left trail (negated guard ∷ []) l e)
+    (λ _ l e. e)))
+
+parts_keep : (trail : List Literal) (guard : Option Literal) (bound : ℕ) (lits : List Literal) → Grows (Some trail) (after_parts trail guard bound lits)
+parts_keep trail None bound lits = bound_keeps trail bound lits
+parts_keep trail (Some guard) bound lits = guard_keeps trail guard bound lits
+
+pub hint-keeps : (trail : List Literal) (c : Bounded) → Grows (Some trail) (after_hint trail c)
+hint-keeps trail c = parts_keep trail c.guard c.bound c.lits
+
+-- a hint on a longer list
+bound_grows : (small big : List Literal) (bound : ℕ) (lits : List Literal) → Covers small big → Grows (after_bound small bound lits) (after_bound big bound lits)
+bound_grows small big bound lits h =
+    let fewer = fewer_open small big lits h in
+    cond_both (ltb (open_places small lits) bound) _ _ (λ o. Grows o (after_bound big bound lits))
+    (λ e. bound_short big bound lits (omega (arith, fewer, ltb-true _ _ e)))
+    (λ _. cond_both (eqb (open_places small lits) bound) _ _ (λ o. Grows o (after_bound big bound lits))
+    (λ e. cond_both (ltb (open_places big lits) bound) _ _ (Grows (Some (small ++ filter (is_open small) lits)))
+    (λ _. tt)
+    (λ f.
+        let met : open_places small lits ≡ bound = eqb-true _ _ e in
+        let meets : open_places big lits ≡ bound = omega (arith, fewer, met, ltb-false _ _ f) in
+        subst (Grows (Some (small ++ filter (is_open small) lits))) (sym (cond-true _ (Some (big ++ filter (is_open big) lits)) (Some big) (eq-eqb _ _ meets)))
+        (Covers-append small (big ++ filter (is_open big) lits) (filter (is_open small) lits)
+        (λ l k. has-left big (filter (is_open big) lits) l (h l k))
+        (λ l k. has-right big (filter (is_open big) lits) l (same_open small big lits h (omega arith) l k)))))
+    (λ _. Grows-less small big (after_bound big bound lits) h (bound_keeps big bound lits)))
+
+-- the guard of the shorter list has no value there, and its negation joins
+guard_joins : (small big : List Literal) (guard : Literal) (bound : ℕ) (lits : List Literal) → Covers small big → open_places big lits < bound → Grows (Some (small ++ negated guard ∷ [])) (after_guard big guard bound lits)
+guard_joins small big guard bound lits h less =
+    let base : List Literal = small ++ negated guard ∷ [] in
+    cond_both (has big guard) _ _ (Grows (Some base))
+    (λ _. subst (Grows (Some base)) (sym (bound_short big bound lits less)) tt)
+    (λ _. cond_both (has big (negated guard)) _ _ (Grows (Some base))
+    (λ e. Covers-append small big (negated guard ∷ []) h (λ l k. subst (λ (x : Literal). has big x ≡ true) (sym (has-one (negated guard) l k)) e))
+    (λ _. cond_both (ltb (open_places big lits) bound) _ _ (Grows (Some base))
+    (λ _. Covers-append small (big ++ negated guard ∷ []) (negated guard ∷ []) (λ l k. has-left big (negated guard ∷ []) l (h l k)) (λ l k. has-right big (negated guard ∷ []) l k))
+    (λ e. absurd (omega (arith, ltb-false _ _ e)))))
+
+guard_grows : (small big : List Literal) (guard : Literal) (bound : ℕ) (lits : List Literal) → Covers small big → Grows (after_guard small guard bound lits) (after_guard big guard bound lits)
+guard_grows small big guard bound lits h =
+    let fewer = fewer_open small big lits h in
+    let kept = Grows-less small big (after_guard big guard bound lits) h (guard_keeps big guard bound lits) in
+    cond_both (has small guard) _ _ (λ o. Grows o (after_guard big guard bound lits))
+    (λ e. subst (Grows (after_bound small bound lits)) (sym (cond-true _ (after_bound big bound lits) (cond (has big (negated guard)) (Some big) (cond (ltb (open_places big lits) bound) (Some (big ++ negated guard ∷ [])) (Some big))) (h guard e))) (bound_grows small big bound lits h))
+    (λ _. cond_both (has small (negated guard)) _ _ (λ o. Grows o (after_guard big guard bound lits))
+    (λ _. kept)
+    (λ _. cond_both (ltb (open_places small lits) bound) _ _ (λ o. Grows o (after_guard big guard bound lits))
+    (λ e. guard_joins small big guard bound lits h (omega (arith, fewer, ltb-true _ _ e)))
+    (λ _. kept)))
+
+parts_grow : (small big : List Literal) (guard : Option Literal) (bound : ℕ) (lits : List Literal) → Covers small big → Grows (after_parts small guard bound lits) (after_parts big guard bound lits)
+parts_grow small big None bound lits h = bound_grows small big bound lits h
+parts_grow small big (Some guard) bound lits h = guard_grows small big guard bound lits h
+
+pub hint-grows : (small big : List Literal) (c : Bounded) → Covers small big → Grows (after_hint small c) (after_hint big c)
+hint-grows small big c h = parts_grow small big c.guard c.bound c.lits h
+
+-- what is a conflict stays one
+pub hint-conflict-grows : (small big : List Literal) (c : Bounded) → Covers small big → after_hint small c ≡ None → after_hint big c ≡ None
+hint-conflict-grows small big c h e = subst (λ (o : Option (List Literal)). Grows o (after_hint big c)) e (hint-grows small big c h)
