@@ -3,9 +3,10 @@
 -- the clause of the decisions follows of a conflict.
 use Rattle.std.proofs.Common.{◌≡◌, ℕ, zero, suc, ◌+◌, ◌-◌, ◌≤◌, ◌<◌, ◌++◌, Bool, true, false, not, cond, eqb, List, [], ◌∷◌, map, Option, None, Some, Result, Ok, Err, refl, sym, ap, ◌∙◌, subst, append_assoc, arith}
 use Rattle.std.specs.List.{AllByRecursion, slice_get}
-use Rattle.std.specs.Option.{option_and_then}
+use Rattle.std.specs.Option.{is_none, option_and_then, option_map}
 use Rattle.std.proofs.lemmas.Bool.{cond-true, cond-false, cond_both}
 use Rattle.std.proofs.lemmas.List.{append-nil}
+use Rattle.std.proofs.lemmas.Option.{same_Some}
 use Rattle.kn_logic.specs.Literals.{Literal, negated, has}
 use Rattle.kn_logic.specs.Constraints.{Bounded}
 use Rattle.kn_logic.specs.Propagation.{after_hint, hint_run}
@@ -13,8 +14,9 @@ use Rattle.kn_lines.specs.Lines.{AreIds}
 use Rattle.kn_rules.specs.declared.given.Given.{Given}
 use Rattle.kn_rules.specs.States.{ProofState, given_at, live_at}
 use Rattle.kn_rules.specs.Steps.{hinted, follow}
+use Rattle.kn_search.proofs.Hints.{has-left, has-right, has-one, Covers, Grows, Covers-append, hint-keeps, hint-grows, hint-conflict-grows}
 use Rattle.kn_search.specs.declared.trail.Entry.{Entry}
-use Rattle.kn_search.specs.Trails.{literals, decisions, reasons, Forces, IsForced, Follows, IsConflict, refuted_decisions}
+use Rattle.kn_search.specs.Trails.{literals, decisions, reason_behind, reasons, Forces, IsForced, Follows, IsConflict, refuted_decisions}
 
 -- more is given
 get-grows : (given more : List Given) (k : ℕ) (entry : Given) → slice_get given k ≡ Some entry → slice_get (given ++ more) k ≡ Some entry
@@ -58,4 +60,73 @@ pub Follows-push : (given : List Given) (before : List Literal) (entries : List 
 Follows-push given before [] entry h forced = (subst (λ (lits : List Literal). IsForced given lits entry.lit entry.reason) (append-nil before) forced, tt)
 Follows-push given before (e ∷ entries) entry h forced =
     (h.0, Follows-push given (before ++ e.lit ∷ []) entries entry h.1 (subst (λ (lits : List Literal). IsForced given lits entry.lit entry.reason) (sym (append_assoc before (e.lit ∷ []) (literals entries))) forced))
+
+-- the reasons, run as hints
+hinted-more : (given : List Given) (id : ℕ) (ids : List ℕ) (c : Bounded) (cs : List Bounded) → live_at given id ≡ Some c → hinted given ids ≡ Some cs → hinted given (id ∷ ids) ≡ Some (c ∷ cs)
+hinted-more given id ids c cs e f = rw (e, f) refl
+
+reasons-live-at : (given : List Given) (before : List Literal) (l : Literal) (reason : Option ℕ) (ids : List ℕ) → IsForced given before l reason → (cs : List Bounded) × (hinted given ids ≡ Some cs) → (cs : List Bounded) × (hinted given (reason_behind reason ids) ≡ Some cs)
+reasons-live-at given before l None ids h rest = rest
+reasons-live-at given before l (Some id) ids (c, live, forces) (cs, e) = (c ∷ cs, hinted-more given id ids c cs live e)
+
+-- the reasons of a trail are live
+pub reasons-live : (given : List Given) (before : List Literal) (entries : List Entry) → Follows given before entries → (cs : List Bounded) × (hinted given (reasons entries) ≡ Some cs)
+reasons-live given before [] h = ([], refl)
+reasons-live given before (e ∷ es) h =
+    reasons-live-at given before e.lit e.reason (reasons es) h.0 (reasons-live given (before ++ e.lit ∷ []) es h.1)
+
+-- A run of the reasons on any list with the literals before and all decisions gives each literal of the
+-- trail, unless it ends in conflict.
+abbrev pub Reaches : List Given → List Literal → List ℕ → List Literal → Type 0
+Reaches given big ids lits = (cs : List Bounded) → hinted given ids ≡ Some cs → Grows (Some lits) (hint_run big cs)
+
+hinted_split : (o : Option (List Bounded)) (c : Bounded) (cs : List Bounded) → option_map (λ xs. c ∷ xs) o ≡ Some cs → (rest : List Bounded) × (o ≡ Some rest) × (cs ≡ c ∷ rest)
+hinted_split None c cs e = absurd cc
+hinted_split (Some rest) c cs e = (rest, refl, sym (same_Some (c ∷ rest) cs e))
+
+hinted-parts : (given : List Given) (ids : List ℕ) (id : ℕ) (c : Bounded) (cs : List Bounded) → live_at given id ≡ Some c → hinted given (id ∷ ids) ≡ Some cs → (rest : List Bounded) × (hinted given ids ≡ Some rest) × (cs ≡ c ∷ rest)
+hinted-parts given ids id c cs live e =
+    hinted_split (hinted given ids) c cs (subst (λ (o : Option Bounded). option_and_then (λ x. option_map (λ xs. x ∷ xs) (hinted given ids)) o ≡ Some cs) live e)
+
+next-reaches : (o : Option (List Literal)) (cs : List Bounded) (lits : List Literal) → ((next : List Literal) → o ≡ Some next → Grows (Some lits) (hint_run next cs)) → Grows (Some lits) (option_and_then (λ next. hint_run next cs) o)
+next-reaches None cs lits h = tt
+next-reaches (Some next) cs lits h = h next refl
+
+grown : (small next : List Literal) (o : Option (List Literal)) → o ≡ Some next → Grows (Some small) o → Covers small next
+grown small next o e h = subst (Grows (Some small)) e h
+
+-- what a run has behind a forced literal's reason
+forced-covers : (before big : List Literal) (l : Literal) (c : Bounded) (next : List Literal) → Covers before big → Forces before c l → after_hint big c ≡ Some next → Covers (before ++ l ∷ []) next
+forced-covers before big l c next h forces e =
+    Covers-append before next (l ∷ [])
+    (λ x k. grown big next (after_hint big c) e (hint-keeps big c) x (h x k))
+    (λ x k. subst (λ (y : Literal). has next y ≡ true) (sym (has-one l x k))
+    (grown forces.0 next (after_hint big c) e (subst (λ (o : Option (List Literal)). Grows o (after_hint big c)) forces.1 (hint-grows before big c h)) l forces.2))
+
+-- the decisions of an entry and of those behind it
+abbrev decisions_behind : Literal → Option ℕ → List Entry → List Literal
+decisions_behind l reason es = cond (is_none reason) (l ∷ decisions es) (decisions es)
+
+behind-reason : (given : List Given) (before big : List Literal) (l : Literal) (reason : Option ℕ) (es : List Entry) → IsForced given before l reason → Covers before big → Covers (decisions_behind l reason es) big → ((next : List Literal) → Covers (before ++ l ∷ []) next → Covers (decisions es) next → Reaches given next (reasons es) ((before ++ l ∷ []) ++ literals es)) → Reaches given big (reason_behind reason (reasons es)) ((before ++ l ∷ []) ++ literals es)
+behind-reason given before big l None es forced h d ih cs e =
+    ih big
+    (Covers-append before big (l ∷ []) h (λ x k. d x (has-left (l ∷ []) (decisions es) x k)))
+    (λ x k. d x (has-right (l ∷ []) (decisions es) x k))
+    cs e
+behind-reason given before big l (Some id) es (c, live, forces) h d ih cs e =
+    let parts = hinted-parts given (reasons es) id c cs live e in
+    subst (λ (hints : List Bounded). Grows (Some ((before ++ l ∷ []) ++ literals es)) (hint_run big hints)) (sym parts.2)
+    (next-reaches (after_hint big c) parts.0 ((before ++ l ∷ []) ++ literals es)
+    (λ next k. ih next
+        (forced-covers before big l c next h forces k)
+        (λ x m. grown big next (after_hint big c) k (hint-keeps big c) x (d x m))
+        parts.0 parts.1))
+
+pub run-covers : (given : List Given) (before : List Literal) (entries : List Entry) (big : List Literal) → Follows given before entries → Covers before big → Covers (decisions entries) big → Reaches given big (reasons entries) (before ++ literals entries)
+run-covers given before [] big h k d = λ cs e.
+    subst (λ (hints : List Bounded). Grows (Some (before ++ [])) (hint_run big hints)) (same_Some [] cs e)
+    (subst (λ (lits : List Literal). Covers lits big) (sym (append-nil before)) k)
+run-covers given before (e ∷ es) big h k d =
+    subst (Reaches given big (reason_behind e.reason (reasons es))) (append_assoc before (e.lit ∷ []) (literals es))
+    (behind-reason given before big e.lit e.reason es h.0 k d (λ next m n. run-covers given (before ++ e.lit ∷ []) es next h.1 m n))
 
