@@ -63,7 +63,7 @@ impl Trail {
         requires { IsKnown self.now.vars lit }
         ensures { result ≡ names (literals self.now.entries) lit.variable }
     {
-        self.assumed.has(lit) || self.assumed.has(lit.negated())
+        self.assumed.has(lit) | self.assumed.has(lit.negated())
     }
 
     /// At how many places the literal is not false.
