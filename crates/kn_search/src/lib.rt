@@ -5,7 +5,9 @@
 //! outcome says (`Outcomes`).
 #![tactic(auto)]
 
+mod deciding;
 mod outcome;
+mod propagation;
 mod trail;
 
 pub use outcome::{Options, Outcome, SearchError};

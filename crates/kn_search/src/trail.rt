@@ -1,7 +1,8 @@
 ghost use Rattle.std.specs.Prelude.{◌≡◌, ◌≤◌, ◌<◌, ◌^◌, ◌++◌, ◌∷◌, [], length, true, false, IfOk, IfSome, IfNone, OnOk, OnErr, MatchOption};
-ghost use Rattle.kn_logic.specs.Literals.{IsKnown, AreKnown, has, names};
+ghost use Rattle.kn_logic.specs.Literals.{IsKnown, AreKnown, AreDifferent, has, names};
 ghost use Rattle.kn_logic.specs.Propagation.{open_places};
 ghost use Rattle.kn_search.specs.Trails.{IsTrail, literals, first_unset, has_decision, before_decision, refuted_decisions, reasons, IsValued};
+ghost use Rattle.kn_search.specs.Searches.{AreValuesOf};
 
 use kn_logic::{Assignment, Lit, NoMemory};
 use std::alloc::Global;
@@ -151,7 +152,8 @@ impl Trail {
 
     /// The reasons, in the order of the literals that they forced.
     pub fn reasons(&self, alloc: Global) -> Result<Vec<u64>, NoMemory>
-        ensures { IfOk result (λ ids. ids.items ≡ reasons self.now.entries) }
+        ensures ids { IfOk result (λ ids. ids.items ≡ reasons self.now.entries) }
+        ensures known { AreKnown self.now.vars (literals self.now.entries) }
     {
         let mut ids = Vec::new(alloc);
         for entry in &self.entries {
@@ -160,6 +162,19 @@ impl Trail {
             }
         }
         Ok(ids)
+    }
+
+    /// The values of the variables, where each has one.
+    pub fn assignment(&self, alloc: Global) -> Result<Assignment, NoMemory>
+        ensures values { IfOk result (AreValuesOf self.now.vars (literals self.now.entries)) }
+        ensures different { AreDifferent (literals self.now.entries) }
+    {
+        let vars = self.assumed.vars();
+        let mut m = Assignment::new(alloc, vars, false)?;
+        for place in 0..vars {
+            m.set(place + 1, self.has(Lit::new(place + 1, true)));
+        }
+        Ok(m)
     }
 
     /// The first variable without a value; `None` where each has one.
