@@ -1,3 +1,4 @@
 pub mod Hints
 pub mod Follow
 pub mod Logging
+pub mod Totals
