@@ -16,7 +16,7 @@ use Rattle.kn_rules.specs.declared.given.Origin.{Origin}
 use Rattle.kn_rules.specs.States.{ProofState, given_at, live_at}
 use Rattle.kn_rules.specs.Steps.{are_known, hinted, is_conflict, with_clause, if_conflict, follow}
 use Rattle.kn_rules.proofs.Elements.{All-push}
-use Rattle.kn_search.proofs.Hints.{has-left, has-right, has-one, Covers, Grows, Covers-append, hint-keeps, hint-grows, hint-conflict-grows}
+use Rattle.kn_search.proofs.Hints.{not_twice, has-left, has-right, has-one, Covers, Grows, Covers-append, hint-keeps, hint-grows, hint-conflict-grows}
 use Rattle.kn_search.specs.declared.trail.Entry.{Entry}
 use Rattle.kn_search.specs.Trails.{literals, decisions, reason_behind, reasons, Forces, IsForced, Follows, IsConflict, refuted_decisions}
 
@@ -133,10 +133,6 @@ run-covers given before (e ∷ es) big h k d =
     (behind-reason given before big e.lit e.reason es h.0 k d (λ next m n. run-covers given (before ++ e.lit ∷ []) es next h.1 m n))
 
 -- a conflict's clause
-not_twice : (p : Bool) → not (not p) ≡ p
-not_twice true = refl
-not_twice false = refl
-
 negated-twice : (l : Literal) → negated (negated l) ≡ l
 negated-twice l = ap (λ (p : Bool). record { variable = l.variable; positive = p }) (not_twice l.positive)
 

@@ -26,9 +26,13 @@ same_literal a b e =
     let parts = and_parts (eqb a.variable b.variable) (cond a.positive b.positive (not b.positive)) e in
     same_record a.variable b.variable a.positive b.positive (eqb-true _ _ parts.0) (alike _ _ parts.1)
 
-same_sign : (p : Bool) → cond p p (not p) ≡ true
+pub same_sign : (p : Bool) → cond p p (not p) ≡ true
 same_sign true = refl
 same_sign false = refl
+
+pub not_twice : (p : Bool) → not (not p) ≡ p
+not_twice true = refl
+not_twice false = refl
 
 pub same-refl : (l : Literal) → is_same l l ≡ true
 same-refl l = and_from _ _ (eq-eqb l.variable l.variable refl) (same_sign l.positive)

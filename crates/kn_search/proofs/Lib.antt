@@ -1,3 +1,5 @@
 pub mod Hints
 pub mod Follow
+pub mod Logging
+pub mod Totals
 pub mod Entries

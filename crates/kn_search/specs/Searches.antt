@@ -8,17 +8,17 @@ use Rattle.kn_logic.specs.Propagation.{after_hint}
 use Rattle.kn_rules.specs.declared.given.Given.{Given}
 use Rattle.kn_rules.specs.States.{ProofState, from_file}
 use Rattle.kn_search.specs.declared.trail.Entry.{Entry}
-use Rattle.kn_search.specs.declared.propagation.Look.{Look}
-use Rattle.kn_search.specs.declared.propagation.Look.TheVariants.{Quiet, Forces, Conflict}
-use Rattle.kn_search.specs.declared.propagation.Visit.{Visit}
-use Rattle.kn_search.specs.declared.propagation.Visit.TheVariants as visit
+use Rattle.kn_search.specs.declared.propagation.Seen.{Seen}
+use Rattle.kn_search.specs.declared.propagation.Seen.TheVariants.{Quiet, Forces, Conflict}
+use Rattle.kn_search.specs.declared.propagation.Effect.{Effect}
+use Rattle.kn_search.specs.declared.propagation.Effect.TheVariants as effect
 use Rattle.kn_search.specs.declared.deciding.Found.{Found}
 use Rattle.kn_search.specs.declared.deciding.Found.TheVariants as found
 use Rattle.kn_search.specs.Trails.{Trailed, literals, Follows, IsConflict}
 
 -- What was seen of a constraint: it is in conflict, or forces a literal without a value. `after` is what it makes
 -- of the list as a hint.
-abbrev pub Sees : ℕ → List Literal → Option (List Literal) → Look → Type 0
+abbrev pub Sees : ℕ → List Literal → Option (List Literal) → Seen → Type 0
 Sees vars trail after Quiet = Unit {0}
 Sees vars trail after (Forces l) =
     IsKnown vars l × (names trail l.variable ≡ false) × ((next : List Literal) × (after ≡ Some next) × (has next l ≡ true))
@@ -31,10 +31,10 @@ pub record Extends (given : List Given) (old new : Trailed) : Type 0 where
   pub longer : length old.entries ≤ length new.entries
 
 -- what a visit of the constraint with this id did
-abbrev pub Visited : List Given → ℕ → Trailed → Trailed → Visit → Type 0
-Visited given id old new visit.Quiet = new ≡ old
-Visited given id old new visit.Forced = length old.entries < length new.entries
-Visited given id old new visit.Conflict = IsConflict given (literals new.entries) id
+abbrev pub Visited : List Given → ℕ → Trailed → Trailed → Effect → Type 0
+Visited given id old new effect.Quiet = new ≡ old
+Visited given id old new effect.Forced = length old.entries < length new.entries
+Visited given id old new effect.Conflict = IsConflict given (literals new.entries) id
 
 -- the values that a list gives to the variables from 1 to a number
 pub record AreValuesOf (vars : ℕ) (lits : List Literal) (values : List Bool) : Type 0 where

@@ -11,7 +11,7 @@ use kn_logic::{Constraint, Lit, NoMemory};
 
 /// What a constraint does to a trail.
 #[derive(Debug)]
-pub enum Look {
+pub enum Seen {
     /// Nothing.
     Quiet,
     /// It forces this literal, whose variable has no value.
@@ -22,7 +22,7 @@ pub enum Look {
 
 /// What a visit of a constraint did.
 #[derive(Clone, Copy, Debug)]
-pub enum Visit {
+pub enum Effect {
     /// Nothing.
     Quiet,
     /// A literal that it forces was added.
@@ -71,35 +71,35 @@ fn force_all(log: &Log, trail: &mut Trail, id: u64) -> Result<bool, NoMemory>
 {
     loop {
         match visit(log, trail, id)? {
-            Visit::Quiet => return Ok(false),
-            Visit::Forced => {}
-            Visit::Conflict => return Ok(true),
+            Effect::Quiet => return Ok(false),
+            Effect::Forced => {}
+            Effect::Conflict => return Ok(true),
         }
     }
 }
 
 /// Adds the first literal that a constraint forces.
-fn visit(log: &Log, trail: &mut Trail, id: u64) -> Result<Visit, NoMemory>
+fn visit(log: &Log, trail: &mut Trail, id: u64) -> Result<Effect, NoMemory>
     requires vars { trail.old.vars ≡ log.now.state.vars }
     requires follows { Follows log.now.state.given [] trail.old.entries }
     ensures extends { Extends log.now.state.given trail.old trail.new }
     ensures visited { IfOk result (Visited log.now.state.given id trail.old trail.new) }
 {
     let Some(c) = log.live(id) else {
-        return Ok(Visit::Quiet);
+        return Ok(Effect::Quiet);
     };
     match look(trail, c) {
-        Look::Quiet => Ok(Visit::Quiet),
-        Look::Forces(lit) => {
+        Seen::Quiet => Ok(Effect::Quiet),
+        Seen::Forces(lit) => {
             trail.push(lit, Some(id))?;
-            Ok(Visit::Forced)
+            Ok(Effect::Forced)
         }
-        Look::Conflict => Ok(Visit::Conflict),
+        Seen::Conflict => Ok(Effect::Conflict),
     }
 }
 
 /// What a constraint does to the trail.
-fn look(trail: &Trail, c: &Constraint) -> Look
+fn look(trail: &Trail, c: &Constraint) -> Seen
     requires { IsWithin trail.now.vars c.now }
     ensures { Sees trail.now.vars (literals trail.now.entries) (after_hint (literals trail.now.entries) c.now) result }
 {
@@ -110,7 +110,7 @@ fn look(trail: &Trail, c: &Constraint) -> Look
 }
 
 /// Where the guard has no value, its negation is forced; where it is false, nothing is.
-fn look_guarded(trail: &Trail, guard: Lit, bound: u64, lits: &[Lit]) -> Look
+fn look_guarded(trail: &Trail, guard: Lit, bound: u64, lits: &[Lit]) -> Seen
     requires guard { IsKnown trail.now.vars guard }
     requires known { AreKnown trail.now.vars lits.now }
     ensures { Sees trail.now.vars (literals trail.now.entries) (after_guard (literals trail.now.entries) guard bound lits.now) result }
@@ -119,25 +119,25 @@ fn look_guarded(trail: &Trail, guard: Lit, bound: u64, lits: &[Lit]) -> Look
         return look_bound(trail, bound, lits);
     }
     if !trail.is_set(guard) && trail.count_open(lits) < bound {
-        return Look::Forces(guard.negated());
+        return Seen::Forces(guard.negated());
     }
-    Look::Quiet
+    Seen::Quiet
 }
 
 /// Where just as many literals as the bound are not false, those without a value are forced.
-fn look_bound(trail: &Trail, bound: u64, lits: &[Lit]) -> Look
+fn look_bound(trail: &Trail, bound: u64, lits: &[Lit]) -> Seen
     requires { AreKnown trail.now.vars lits.now }
     ensures { Sees trail.now.vars (literals trail.now.entries) (after_bound (literals trail.now.entries) bound lits.now) result }
 {
     let open = trail.count_open(lits);
     if open < bound {
-        return Look::Conflict;
+        return Seen::Conflict;
     }
     if open > bound {
-        return Look::Quiet;
+        return Seen::Quiet;
     }
     match trail.first_unset(lits) {
-        Some(lit) => Look::Forces(lit),
-        None => Look::Quiet,
+        Some(lit) => Seen::Forces(lit),
+        None => Seen::Quiet,
     }
 }
