@@ -3,3 +3,5 @@ pub mod Follow
 pub mod Logging
 pub mod Totals
 pub mod Entries
+pub mod Forcing
+pub mod Judging

@@ -1,5 +1,5 @@
 -- What a search does between two of its conflicts, and what it keeps.
-use Rattle.std.specs.Prelude.{ℕ, ◌≡◌, ◌≤◌, ◌<◌, ◌+◌, ◌++◌, Bool, true, false, List, [], map, length, Option, Some, None, slice_get}
+use Rattle.std.specs.Prelude.{ℕ, ◌≡◌, ◌≤◌, ◌<◌, ◌+◌, ◌^◌, ◌++◌, Bool, true, false, List, [], map, length, Option, Some, None, slice_get}
 use Rattle.kn_logic.specs.Literals.{Literal, has, names, IsKnown}
 use Rattle.kn_logic.specs.Constraints.{Bounded, Holds}
 use Rattle.kn_logic.specs.Assignments.{value_of}
@@ -33,12 +33,12 @@ pub record Extends (given : List Given) (old new : Trailed) : Type 0 where
 -- what a visit of the constraint with this id did
 abbrev pub Visited : List Given → ℕ → Trailed → Trailed → Effect → Type 0
 Visited given id old new effect.Quiet = new ≡ old
-Visited given id old new effect.Forced = length old.entries < length new.entries
+Visited given id old new effect.Forced = (length old.entries < length new.entries) × (length new.entries < 2 ^ 64)
 Visited given id old new effect.Conflict = IsConflict given (literals new.entries) id
 
 -- the values that a list gives to the variables from 1 to a number
 pub record AreValuesOf (vars : ℕ) (lits : List Literal) (values : List Bool) : Type 0 where
-  pub vars : length values ≡ vars
+  pub count : length values ≡ vars
   pub exact : (v : ℕ) → 1 ≤ v → v ≤ vars → value_of values v ≡ has lits (record { variable = v; positive = true })
 
 -- The constraint with this id is one of these, the first of which has id 1, and does not hold.

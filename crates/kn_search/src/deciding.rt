@@ -1,5 +1,5 @@
 ghost use Rattle.std.specs.Prelude.{◌≡◌, length, IfOk, IfSome, IfNone};
-ghost use Rattle.kn_logic.specs.Formulas.{Satisfies};
+ghost use Rattle.kn_logic.specs.Formulas.{IsFormula, Satisfies};
 ghost use Rattle.kn_search.specs.Searches.{IsViolated, Judges, IsSearching, Finds};
 
 use crate::propagation::settle;
@@ -37,7 +37,8 @@ pub fn decide(alloc: Global, f: &Formula, log: &Log, trail: &mut Trail) -> Resul
 /// Tests an assignment against the formula.
 fn tested(f: &Formula, m: Assignment) -> Found
     requires { length m ≡ f.now.vars }
-    ensures { Judges f.now m result }
+    ensures judges { Judges f.now m result }
+    ensures formula { IsFormula f.now }
 {
     match violated(f, &m) {
         Some(id) => Found::Conflict(id),
@@ -50,6 +51,7 @@ fn violated(f: &Formula, m: &Assignment) -> Option<u64>
     requires { length m.now ≡ f.now.vars }
     ensures some { IfSome result (IsViolated m.now f.now.constraints) }
     ensures none { IfNone result (Satisfies m.now f.now) }
+    ensures formula { IsFormula f.now }
 {
     for place in 0..f.len() {
         let Some(c) = f.get(place) else {

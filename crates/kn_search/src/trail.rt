@@ -95,6 +95,7 @@ impl Trail {
         requires unset { names (literals self.old.entries) lit.variable ≡ false }
         ensures ok { OnOk result (self.new ≡ record self.old { entries = self.old.entries ++ (record { lit = lit; reason = reason }) ∷ [] }) }
         ensures err { OnErr result (self.new ≡ self.old) }
+        ensures room { OnOk result (length self.new.entries < 2 ^ 64) }
     {
         self.entries.reserve(1)?;
         self.assumed.push(lit)?;
