@@ -5,3 +5,4 @@ pub mod Totals
 pub mod Entries
 pub mod Forcing
 pub mod Judging
+pub mod Searching
