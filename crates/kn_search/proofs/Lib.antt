@@ -5,4 +5,5 @@ pub mod Totals
 pub mod Entries
 pub mod Forcing
 pub mod Judging
-pub mod Searching
+pub mod Steps
+pub mod Clauses

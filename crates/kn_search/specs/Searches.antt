@@ -1,10 +1,12 @@
 -- What a search does between two of its conflicts, and what it keeps.
-use Rattle.std.specs.Prelude.{ℕ, ◌≡◌, ◌≤◌, ◌<◌, ◌+◌, ◌^◌, ◌++◌, Bool, true, false, List, [], map, length, Option, Some, None, slice_get}
+use Rattle.std.specs.Prelude.{ℕ, ◌≡◌, ◌≤◌, ◌<◌, ◌+◌, ◌^◌, ◌++◌, Bool, true, false, List, [], ◌∷◌, map, length, Option, Some, None, slice_get}
 use Rattle.kn_logic.specs.Literals.{Literal, has, names, IsKnown}
-use Rattle.kn_logic.specs.Constraints.{Bounded, Holds}
+use Rattle.kn_logic.specs.Constraints.{Bounded, clause, Holds}
 use Rattle.kn_logic.specs.Assignments.{value_of}
 use Rattle.kn_logic.specs.Formulas.{Problem, Satisfies}
 use Rattle.kn_logic.specs.Propagation.{after_hint}
+use Rattle.kn_lines.specs.declared.line.Line.{Line}
+use Rattle.kn_lines.specs.declared.line.Line.TheVariants.{Lemma, Learned}
 use Rattle.kn_rules.specs.declared.given.Given.{Given}
 use Rattle.kn_rules.specs.States.{ProofState, from_file}
 use Rattle.kn_search.specs.declared.trail.Entry.{Entry}
@@ -14,7 +16,7 @@ use Rattle.kn_search.specs.declared.propagation.Effect.{Effect}
 use Rattle.kn_search.specs.declared.propagation.Effect.TheVariants as effect
 use Rattle.kn_search.specs.declared.deciding.Found.{Found}
 use Rattle.kn_search.specs.declared.deciding.Found.TheVariants as found
-use Rattle.kn_search.specs.Trails.{Trailed, literals, Follows, IsConflict}
+use Rattle.kn_search.specs.Trails.{Trailed, literals, reasons, refuted_decisions, Follows, IsConflict}
 
 -- What was seen of a constraint: it is in conflict, or forces a literal without a value. `after` is what it makes
 -- of the list as a hint.
@@ -61,3 +63,14 @@ pub record IsSearching (f : Problem) (s : ProofState) (t : Trailed) : Type 0 whe
 abbrev pub Finds : Problem → List Given → List Entry → Found → Type 0
 Finds f given entries (found.Model m) = Satisfies m f
 Finds f given entries (found.Conflict id) = IsConflict given (literals entries) id
+
+-- the reasons of a trail, and behind them the conflict
+abbrev pub conflict_hints : List Entry → ℕ → List ℕ
+conflict_hints entries id = reasons entries ++ id ∷ []
+
+-- the learned clause of a conflict, and the lemma that refutes where nothing was decided
+abbrev pub learned_line : List Entry → ℕ → Line
+learned_line entries id = Learned (clause (refuted_decisions entries)) (conflict_hints entries id)
+
+abbrev pub refuting_line : List Entry → ℕ → Line
+refuting_line entries id = Lemma (clause []) (conflict_hints entries id)

@@ -6,8 +6,11 @@
 #![tactic(auto)]
 
 mod deciding;
+mod learning;
 mod outcome;
 mod propagation;
+mod searching;
 mod trail;
 
 pub use outcome::{Options, Outcome, SearchError};
+pub use searching::search;

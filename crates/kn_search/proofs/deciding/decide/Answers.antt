@@ -1,5 +1,5 @@
 use Rattle.kn_search.proofs.Judging.{finds}
-use Rattle.kn_search.proofs.Searching.{searching-extends, searching-decided}
+use Rattle.kn_search.proofs.Steps.{searching-extends, searching-decided}
 use Rattle.kn_search.proofs.deciding.decide.Goals as goal
 
 pub returns-in_default-unset_variable-clause-found : goal.returns-in_default-unset_variable-clause-found
