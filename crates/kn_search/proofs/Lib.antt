@@ -7,3 +7,4 @@ pub mod Forcing
 pub mod Judging
 pub mod Steps
 pub mod Clauses
+pub mod Endings
