@@ -47,14 +47,14 @@ pub fn settle(log: &Log, trail: &mut Trail) -> Result<Option<u64>, NoMemory>
     }
 }
 
-/// Visits each constraint once, up to a conflict.
+/// Visits each constraint once, the newest first, up to a conflict.
 fn visit_all(log: &Log, trail: &mut Trail) -> Result<Option<u64>, NoMemory>
     requires vars { trail.old.vars ≡ log.now.state.vars }
     requires follows { Follows log.now.state.given [] trail.old.entries }
     ensures extends { Extends log.now.state.given trail.old trail.new }
     ensures conflict { IfOk result (λ found. IfSome found (IsConflict log.now.state.given (literals trail.new.entries))) }
 {
-    for id in 1..log.next_id() {
+    for id in (1..log.next_id()).rev() {
         if force_all(log, trail, id)? {
             return Ok(Some(id));
         }
