@@ -137,3 +137,41 @@ marked-unmarked marks lits m = record {
       let q = unnamed lits (record { variable = k + 1; positive = false }) n in
       cc;
 }
+
+-- one literal less
+known-front : (vars : ℕ) (front back : List Literal) → AreKnown vars (front ++ back) → AreKnown vars front
+known-front vars [] back h = tt
+known-front vars (l ∷ front) back h = (h.0, known-front vars front back h.1)
+
+pub known-last : (vars : ℕ) (front : List Literal) (l : Literal) → AreKnown vars (front ++ l ∷ []) → IsKnown vars l
+known-last vars [] l h = h.0
+known-last vars (x ∷ front) l h = known-last vars front l h.1
+
+none_named : (front : List Literal) (variable k : ℕ) → names front variable ≡ false → k ≡ variable → unmarked ≡ mark_of front k
+none_named front variable k alone e =
+    let n : names front k ≡ false = ap (names front) e ∙ alone in
+    let p = unnamed front (record { variable = k; positive = true }) n in
+    let q = unnamed front (record { variable = k; positive = false }) n in
+    cc
+
+pop_at : (marks : List Mark) (front : List Literal) (l : Literal) → IsMarked marks (front ++ l ∷ []) → names front l.variable ≡ false → (k : ℕ) → k < length marks → get_or (set marks (l.variable - 1) unmarked) k unmarked ≡ mark_of front (k + 1)
+pop_at marks front l m alone k h =
+    let known = known-last (length marks) front l m.known in
+    elim (cases_eq (k + 1) l.variable) [
+      | inl same ↦ (
+          let place : l.variable - 1 ≡ k = omega arith in
+          ap (λ (p : ℕ). get_or (set marks p unmarked) k unmarked) place ∙ get_or-set_same marks k unmarked unmarked h ∙ none_named front l.variable (k + 1) alone same
+          )
+      | inr differs ↦ (
+          let place : k ≢ l.variable - 1 = omega arith in
+          get_or-set_other marks (l.variable - 1) k unmarked unmarked place ∙ m.exact k h ∙ at_variable front l (k + 1) false (ne_eqb _ _ differs)
+          )
+    ]
+
+pub pop-marked : (marks : List Mark) (front : List Literal) (l : Literal) → IsMarked marks (front ++ l ∷ []) → names front l.variable ≡ false → IsMarked (set marks (l.variable - 1) unmarked) front
+pop-marked marks front l m alone =
+    let len = length-set marks (l.variable - 1) unmarked in
+    record {
+      known = rw len (known-front _ front (l ∷ []) m.known);
+      exact = λ k h. pop_at marks front l m alone k (rw len at h);
+    }

@@ -60,7 +60,7 @@ step-le true true h = omega arith
 step-le true false h = let e = h refl in absurd cc
 step-le false t h = omega arith
 
-places-le : (p q : Literal → Bool) → ((l : Literal) → p l ≡ true → q l ≡ true) → (lits : List Literal) → places p lits ≤ places q lits
+pub places-le : (p q : Literal → Bool) → ((l : Literal) → p l ≡ true → q l ≡ true) → (lits : List Literal) → places p lits ≤ places q lits
 places-le p q h [] = omega arith
 places-le p q h (l ∷ lits) = omega (arith, step-le (p l) (q l) (h l), places-le p q h lits)
 
@@ -71,7 +71,7 @@ kept_at p l rest false true m n e h le k ih = absurd (omega arith)
 kept_at p l rest false false m n e h le k ih = ih (omega arith)
 
 -- where a weaker test passes at no more places, all that pass it pass both
-all-kept : (p q : Literal → Bool) → ((l : Literal) → p l ≡ true → q l ≡ true) → (lits : List Literal) → places q lits ≤ places p lits → AllByRecursion (λ x. p x ≡ true) (filter q lits)
+pub all-kept : (p q : Literal → Bool) → ((l : Literal) → p l ≡ true → q l ≡ true) → (lits : List Literal) → places q lits ≤ places p lits → AllByRecursion (λ x. p x ≡ true) (filter q lits)
 all-kept p q h [] k = tt
 all-kept p q h (l ∷ lits) k =
     kept_at p l (filter q lits) (p l) (q l) (places p lits) (places q lits) refl (h l) (places-le p q h lits) k (λ le. all-kept p q h lits le)

@@ -1,10 +1,10 @@
 -- A table that says for each variable which of its two literals stand in a list, so that a literal is
 -- looked up in one step however long the list is.
-use Rattle.std.specs.Prelude.{ℕ, ◌≡◌, ◌+◌, ◌-◌, ◌<◌, Bool, true, false, not, ◌||◌, if◌then◌else◌, List, length, slice_index_or, slice_set}
-use Rattle.kn_logic.specs.Literals.{Literal, negated, has, AreKnown}
+use Rattle.std.specs.Prelude.{ℕ, ◌≡◌, ◌+◌, ◌-◌, ◌<◌, Bool, true, false, not, ◌||◌, if◌then◌else◌, List, ◌++◌, ◌∷◌, [], length, slice_index_or, slice_set}
+use Rattle.kn_logic.specs.Literals.{Literal, negated, has, names, AreKnown}
 use Rattle.kn_rules.specs.declared.trail.Mark.{Mark}
 
--- the literals that a run of hints takes to be true, over so many variables
+-- literals that are taken to be true, over so many variables
 pub record Assumed : Type 0 where
   pub vars : ℕ
   pub lits : List Literal
@@ -24,6 +24,10 @@ mark_of lits variable = record {
 pub record IsMarked (marks : List Mark) (lits : List Literal) : Type 0 where
   pub known : AreKnown (length marks) lits
   pub exact : (k : ℕ) → k < length marks → slice_index_or marks k unmarked ≡ mark_of lits (k + 1)
+
+-- No other literal of the list has the variable of the last one.
+abbrev pub IsLastAlone : List Literal → Type 0
+IsLastAlone lits = (front : List Literal) (l : Literal) → lits ≡ front ++ l ∷ [] → names front l.variable ≡ false
 
 -- the entry of a literal's variable
 abbrev pub entry_of : List Mark → Literal → Mark

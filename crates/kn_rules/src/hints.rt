@@ -2,7 +2,7 @@ ghost use Rattle.std.specs.Prelude.{◌≡◌, ◌++◌, [], map, Some, None, If
 ghost use Rattle.std.specs.Option.{is_none};
 ghost use Rattle.kn_logic.specs.Literals.{IsKnown, AreKnown, negated};
 ghost use Rattle.kn_logic.specs.Constraints.{IsWithin};
-ghost use Rattle.kn_logic.specs.Propagation.{open_places, after_bound, after_guard, after_hint, hint_run};
+ghost use Rattle.kn_logic.specs.Propagation.{after_bound, after_guard, after_hint, hint_run};
 ghost use Rattle.kn_rules.specs.States.{AreLiveWithin};
 ghost use Rattle.kn_rules.specs.Steps.{hinted, is_conflict};
 
@@ -101,7 +101,7 @@ fn apply_guarded(trail: &mut Trail, guard: Lit, bound: u64, lits: &[Lit]) -> Res
     if trail.has(guard.negated()) {
         return Ok(true);
     }
-    if count_open(trail, lits) < bound {
+    if trail.count_open(lits) < bound {
         trail.push(guard.negated())?;
     }
     Ok(true)
@@ -112,7 +112,7 @@ fn apply_bound(trail: &mut Trail, bound: u64, lits: &[Lit]) -> Result<bool, NoMe
     ensures run { IfOk result (λ on. after_bound trail.old.lits bound lits.now ≡ (if on then Some trail.new.lits else None)) }
     ensures vars { trail.new.vars ≡ trail.old.vars }
 {
-    let open = count_open(trail, lits);
+    let open = trail.count_open(lits);
     if open < bound {
         return Ok(false);
     }
@@ -120,17 +120,4 @@ fn apply_bound(trail: &mut Trail, bound: u64, lits: &[Lit]) -> Result<bool, NoMe
         trail.push_open(lits)?;
     }
     Ok(true)
-}
-
-fn count_open(trail: &Trail, lits: &[Lit]) -> u64
-    requires { AreKnown trail.now.vars lits.now }
-    ensures { result ≡ open_places trail.now.lits lits.now }
-{
-    let mut count = 0;
-    for lit in lits {
-        if trail.is_open(*lit) {
-            count += 1;
-        }
-    }
-    count
 }

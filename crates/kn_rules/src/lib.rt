@@ -17,6 +17,7 @@ mod whole;
 pub use checker::{Checker, FeedError};
 pub use given::{Given, Origin};
 pub use laws::{never_both, proof_refutes};
+pub use trail::Trail;
 pub use whole::{Checked, check};
 
 #[cfg(test)]

@@ -1,7 +1,7 @@
-ghost use Rattle.std.specs.Prelude.{◌≡◌, ◌++◌, ◌∷◌, [], List, length, filter, IfOk, OnOk, OnErr};
+ghost use Rattle.std.specs.Prelude.{◌≡◌, ◌-◌, ◌++◌, ◌∷◌, [], List, length, filter, slice_set, IfOk, OnOk, OnErr, MatchOption};
 ghost use Rattle.kn_logic.specs.Literals.{Literal, IsKnown, AreKnown, has};
-ghost use Rattle.kn_logic.specs.Propagation.{is_open};
-ghost use Rattle.kn_rules.specs.Marks.{IsMarked, is_marked, marked, is_unopposed};
+ghost use Rattle.kn_logic.specs.Propagation.{is_open, open_places};
+ghost use Rattle.kn_rules.specs.Marks.{IsMarked, IsLastAlone, unmarked, is_marked, marked, is_unopposed};
 
 use kn_logic::{Lit, NoMemory};
 use std::alloc::{AllocError, Global};
@@ -14,8 +14,8 @@ pub struct Mark {
     negative: bool,
 }
 
-/// The literals that a run of hints takes to be true, in the order in which they came. It tells in one
-/// step whether a literal stands in it.
+/// Literals that are taken to be true, in the order in which they came. It tells in one step whether a
+/// literal stands in it.
 #[derive(Debug, Drop)]
 pub struct Trail {
     marks: Vec<Mark>,
@@ -64,6 +64,27 @@ impl Trail {
         is_unopposed(&self.marks, lit)
     }
 
+    /// At how many places the literal's negation does not stand in the list.
+    pub fn count_open(&self, lits: &[Lit]) -> u64
+        requires { AreKnown self.now.vars lits.now }
+        ensures { result ≡ open_places self.now.lits lits.now }
+    {
+        let mut count = 0;
+        for lit in lits {
+            if self.is_open(*lit) {
+                count += 1;
+            }
+        }
+        count
+    }
+
+    /// The number of variables that it is over, which count from 1.
+    pub fn vars(&self) -> u64
+        ensures { result ≡ self.now.vars }
+    {
+        self.marks.len() as u64
+    }
+
     /// Adds a literal at the end. Fails where memory is wanting, and the list is as before then.
     pub fn push(&mut self, lit: Lit) -> Result<(), NoMemory>
         requires { IsKnown self.old.vars lit }
@@ -87,6 +108,18 @@ impl Trail {
         let (_, added) = self.lits.split_at(before);
         mark_all(&mut self.marks, added);
         Ok(())
+    }
+
+    /// Takes out the last literal, whose variable no other literal of the list has; `None` exactly where
+    /// the list is empty.
+    pub fn pop(&mut self) -> Option<Lit>
+        requires { IsLastAlone self.old.lits }
+        ensures vars { self.new.vars ≡ self.old.vars }
+        ensures lits { MatchOption result ((self.old.lits ≡ []) × (self.new.lits ≡ [])) (λ l. self.old.lits ≡ self.new.lits ++ l ∷ []) }
+    {
+        let lit = self.lits.pop()?;
+        unmark_one(&mut self.marks, lit);
+        Some(lit)
     }
 
     /// Takes all literals out, in time that grows with their number alone.
@@ -129,6 +162,16 @@ fn mark_one(marks: &mut [Mark], lit: Lit)
     };
 }
 
+fn unmark_one(marks: &mut [Mark], lit: Lit)
+    requires { IsKnown (length marks.old) lit }
+    ensures { marks.new ≡ slice_set marks.old (lit.variable - 1) unmarked }
+{
+    marks[lit.var() as usize - 1] = Mark {
+        positive: false,
+        negative: false,
+    };
+}
+
 fn mark_all(marks: &mut [Mark], lits: &[Lit])
     requires { AreKnown (length marks.old) lits.now }
     ensures { (before : List Literal) → IsMarked marks.old before → IsMarked marks.new (before ++ lits.now) }
@@ -143,10 +186,7 @@ fn unmark_all(marks: &mut [Mark], lits: &[Lit])
     ensures { IsMarked marks.new [] }
 {
     for lit in lits {
-        marks[lit.var() as usize - 1] = Mark {
-            positive: false,
-            negative: false,
-        };
+        unmark_one(marks, *lit);
     }
 }
 

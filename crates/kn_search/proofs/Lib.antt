@@ -1,1 +1,10 @@
-pub mod Nothing
+pub mod Hints
+pub mod Follow
+pub mod Logging
+pub mod Totals
+pub mod Entries
+pub mod Forcing
+pub mod Judging
+pub mod Steps
+pub mod Clauses
+pub mod Endings

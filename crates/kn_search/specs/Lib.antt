@@ -1,2 +1,3 @@
 pub mod Trails
+pub mod Searches
 pub mod Outcomes

@@ -6,6 +6,8 @@ use Rattle.kn_lines.specs.declared.line.Line.{Line}
 use Rattle.kn_rules.specs.States.{ProofState}
 use Rattle.kn_log.specs.Logs.{Logged, line_bytes}
 use Rattle.kn_log.specs.Written.{StepsBy, AreSpelled, lines_bytes, learned_in}
+use Rattle.kn_log.specs.declared.error.LogError.{LogError}
+use Rattle.kn_log.specs.declared.error.LogError.TheVariants as log
 use Rattle.kn_search.specs.declared.outcome.Outcome.{Outcome}
 use Rattle.kn_search.specs.declared.outcome.Outcome.TheVariants.{Model, Refuted, Spent}
 use Rattle.kn_search.specs.declared.outcome.SearchError.{SearchError}
@@ -45,3 +47,8 @@ pub record Ends (f : Problem) (budget : ℕ) (old new : Logged) (w w' : Option (
 abbrev pub EndsNot : Logged → Logged → Option (List ℕ) → Option (List ℕ) → SearchError → Type 0
 EndsNot old new w w' Memory = (learned : ℕ) × Learns old.state new.state w w' learned × (new.failed ≡ false)
 EndsNot old new w w' WriteFault = Breaks old.state new.state w w' × (new.failed ≡ true)
+
+-- what a search answers where its log fails
+abbrev pub error_of : LogError → SearchError
+error_of log.Memory = Memory
+error_of log.Fault = WriteFault

@@ -1,12 +1,14 @@
 -- A trail: the literals that a search takes to be true, in the order in which they came, each decided or
 -- forced by a constraint, its reason.
-use Rattle.std.specs.Prelude.{ℕ, ◌≡◌, ◌++◌, ◌∷◌, Bool, true, false, if◌then◌else◌, List, [], map, Option, Some, None}
+use Rattle.std.specs.Prelude.{ℕ, ◌≡◌, ◌≤◌, ◌++◌, ◌∷◌, Bool, true, false, if◌then◌else◌, List, [], map, Option, Some, None}
+use Rattle.std.specs.List.{list_any}
 use Rattle.std.specs.Option.{is_none}
-use Rattle.kn_logic.specs.Literals.{Literal, negated, has, AreDifferent}
+use Rattle.kn_logic.specs.Literals.{Literal, negated, has, names, AreKnown, AreDifferent}
 use Rattle.kn_logic.specs.Constraints.{Bounded}
 use Rattle.kn_logic.specs.Propagation.{after_hint}
 use Rattle.kn_rules.specs.declared.given.Given.{Given}
 use Rattle.kn_rules.specs.States.{live_at}
+use Rattle.kn_rules.specs.Marks.{Assumed}
 use Rattle.kn_search.specs.declared.trail.Entry.{Entry}
 
 -- the entries of a trail over so many variables
@@ -16,6 +18,30 @@ pub record Trailed : Type 0 where
 
 abbrev pub literals : List Entry → List Literal
 literals entries = map (λ e. e.lit) entries
+
+-- What a trail keeps, beside its entries, to look literals up.
+pub record IsTrail (assumed : Assumed) (entries : List Entry) : Type 0 where
+  pub lits : assumed.lits ≡ literals entries
+  pub known : AreKnown assumed.vars (literals entries)
+  pub different : AreDifferent (literals entries)
+
+-- the first literal of a list whose variable has no value
+abbrev pub first_unset : List Literal → List Literal → Option Literal
+first_unset trail [] = None
+first_unset trail (l ∷ lits) = if names trail l.variable then first_unset trail lits else Some l
+
+-- each variable from 1 to this number has a value
+abbrev pub IsValued : ℕ → List Literal → Type 0
+IsValued vars trail = (v : ℕ) → 1 ≤ v → v ≤ vars → names trail v ≡ true
+
+-- whether some entry was decided
+abbrev pub has_decision : List Entry → Bool
+has_decision entries = list_any (λ e. is_none e.reason) entries
+
+-- the entries before the last decision; none where there is no decision
+abbrev pub before_decision : List Entry → List Entry
+before_decision [] = []
+before_decision (e ∷ es) = if has_decision es then e ∷ before_decision es else []
 
 -- the literals that were decided, which are those without a reason
 abbrev pub decisions : List Entry → List Literal

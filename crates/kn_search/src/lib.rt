@@ -5,9 +5,12 @@
 //! outcome says (`Outcomes`).
 #![tactic(auto)]
 
+mod deciding;
+mod learning;
 mod outcome;
+mod propagation;
+mod searching;
 mod trail;
 
 pub use outcome::{Options, Outcome, SearchError};
-mod searching;
 pub use searching::search;

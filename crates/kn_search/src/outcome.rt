@@ -1,4 +1,10 @@
+ghost use Rattle.std.specs.Prelude.{◌≡◌};
+ghost use Rattle.kn_search.specs.Outcomes.{error_of};
+ghost use Rattle.kn_search.specs.declared.outcome.SearchError.TheVariants.{Memory};
+
+use kn_log::LogError;
 use kn_logic::Assignment;
+use std::alloc::AllocError;
 
 /// How far a search goes.
 #[derive(Clone, Copy, Debug)]
@@ -27,4 +33,23 @@ pub enum SearchError {
     Memory,
     /// The sink of the proof failed.
     WriteFault,
+}
+
+impl From<AllocError> for SearchError {
+    ghost from_gives = { λ _ e. e ≡ Memory };
+
+    fn from(_: AllocError) -> SearchError {
+        SearchError::Memory
+    }
+}
+
+impl From<LogError> for SearchError {
+    ghost from_gives = { λ e s. s ≡ error_of e };
+
+    fn from(e: LogError) -> SearchError {
+        match e {
+            LogError::Fault => SearchError::WriteFault,
+            LogError::Memory => SearchError::Memory,
+        }
+    }
 }

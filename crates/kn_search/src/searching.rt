@@ -3,14 +3,18 @@ ghost use Rattle.kn_bytes.specs.Outside.{Rose};
 ghost use Rattle.kn_rules.specs.States.{start};
 ghost use Rattle.kn_search.specs.Outcomes.{Ends, EndsNot};
 
+use crate::deciding::{Found, decide};
+use crate::learning::{learn, refute};
+use crate::trail::Trail;
 use crate::{Options, Outcome, SearchError};
 use kn_bytes::Sink;
 use kn_log::Log;
 use kn_logic::Formula;
 use std::alloc::Global;
 
-/// Stub.
-#[tactic(auto, using(crate::proofs::Nothing::nothing))]
+/// Searches for a model of a formula or its refutation. The log is one that holds no line yet; what is learned
+/// is logged, and at a refutation the clause without literals. `Memory`: the log and its sink hold each line
+/// whole. `WriteFault`: the sink got only a part of the last line, and the log takes no more.
 pub fn search<S: Sink>(
     alloc: Global,
     f: &Formula,
@@ -26,5 +30,22 @@ pub fn search<S: Sink>(
     ensures later { S.faults sink.old ≤ S.faults sink.new }
     ensures fault { IsErrOf result SearchError.WriteFault → Rose (S.faults sink.old) (S.faults sink.new) }
 {
-    Err(SearchError::Memory)
+    let mut trail = Trail::new(alloc, f.vars())?;
+    let mut learned = 0;
+    loop {
+        let id = match decide(alloc, f, log, &mut trail)? {
+            Found::Model(m) => return Ok(Outcome::Model(m)),
+            Found::Conflict(id) => id,
+        };
+        if !trail.has_decision() {
+            refute(alloc, log, sink, &trail, id)?;
+            return Ok(Outcome::Refuted);
+        }
+        if learned == options.conflicts {
+            return Ok(Outcome::Spent { learned });
+        }
+        learn(alloc, log, sink, &trail, id)?;
+        trail.back();
+        learned += 1;
+    }
 }

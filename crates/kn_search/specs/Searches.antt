@@ -1,0 +1,76 @@
+-- What a search does between two of its conflicts, and what it keeps.
+use Rattle.std.specs.Prelude.{ℕ, ◌≡◌, ◌≤◌, ◌<◌, ◌+◌, ◌^◌, ◌++◌, Bool, true, false, List, [], ◌∷◌, map, length, Option, Some, None, slice_get}
+use Rattle.kn_logic.specs.Literals.{Literal, has, names, IsKnown}
+use Rattle.kn_logic.specs.Constraints.{Bounded, clause, Holds}
+use Rattle.kn_logic.specs.Assignments.{value_of}
+use Rattle.kn_logic.specs.Formulas.{Problem, Satisfies}
+use Rattle.kn_logic.specs.Propagation.{after_hint}
+use Rattle.kn_lines.specs.declared.line.Line.{Line}
+use Rattle.kn_lines.specs.declared.line.Line.TheVariants.{Lemma, Learned}
+use Rattle.kn_rules.specs.declared.given.Given.{Given}
+use Rattle.kn_rules.specs.States.{ProofState, from_file}
+use Rattle.kn_search.specs.declared.trail.Entry.{Entry}
+use Rattle.kn_search.specs.declared.propagation.Seen.{Seen}
+use Rattle.kn_search.specs.declared.propagation.Seen.TheVariants.{Quiet, Forces, Conflict}
+use Rattle.kn_search.specs.declared.propagation.Effect.{Effect}
+use Rattle.kn_search.specs.declared.propagation.Effect.TheVariants as effect
+use Rattle.kn_search.specs.declared.deciding.Found.{Found}
+use Rattle.kn_search.specs.declared.deciding.Found.TheVariants as found
+use Rattle.kn_search.specs.Trails.{Trailed, literals, reasons, refuted_decisions, Follows, IsConflict}
+
+-- What was seen of a constraint: it is in conflict, or forces a literal without a value. `after` is what it makes
+-- of the list as a hint.
+abbrev pub Sees : ℕ → List Literal → Option (List Literal) → Seen → Type 0
+Sees vars trail after Quiet = Unit {0}
+Sees vars trail after (Forces l) =
+    IsKnown vars l × (names trail l.variable ≡ false) × ((next : List Literal) × (after ≡ Some next) × (has next l ≡ true))
+Sees vars trail after Conflict = after ≡ None
+
+-- the trail has grown, or is as before, and follows
+pub record Extends (given : List Given) (old new : Trailed) : Type 0 where
+  pub vars : new.vars ≡ old.vars
+  pub follows : Follows given [] new.entries
+  pub longer : length old.entries ≤ length new.entries
+
+-- what a visit of the constraint with this id did
+abbrev pub Visited : List Given → ℕ → Trailed → Trailed → Effect → Type 0
+Visited given id old new effect.Quiet = new ≡ old
+Visited given id old new effect.Forced = (length old.entries < length new.entries) × (length new.entries < 2 ^ 64)
+Visited given id old new effect.Conflict = IsConflict given (literals new.entries) id
+
+-- the values that a list gives to the variables from 1 to a number
+pub record AreValuesOf (vars : ℕ) (lits : List Literal) (values : List Bool) : Type 0 where
+  pub count : length values ≡ vars
+  pub exact : (v : ℕ) → 1 ≤ v → v ≤ vars → value_of values v ≡ has lits (record { variable = v; positive = true })
+
+-- The constraint with this id is one of these, the first of which has id 1, and does not hold.
+abbrev pub IsViolated : List Bool → List Bounded → ℕ → Type 0
+IsViolated values cs id = (k : ℕ) × (c : Bounded) × (id ≡ k + 1) × (slice_get cs k ≡ Some c) × (Holds values c → ⊥)
+
+-- what a test of an assignment says
+abbrev pub Judges : Problem → List Bool → Found → Type 0
+Judges f values (found.Model m) = Satisfies m f
+Judges f values (found.Conflict id) = IsViolated values f.constraints id
+
+-- what a search keeps: its trail follows, and the constraints of the formula are live under their ids
+pub record IsSearching (f : Problem) (s : ProofState) (t : Trailed) : Type 0 where
+  pub state : s.vars ≡ f.vars
+  pub vars : t.vars ≡ f.vars
+  pub file : (rest : List Given) × (s.given ≡ map from_file f.constraints ++ rest)
+  pub follows : Follows s.given [] t.entries
+
+-- where a search without a choice left stands
+abbrev pub Finds : Problem → List Given → List Entry → Found → Type 0
+Finds f given entries (found.Model m) = Satisfies m f
+Finds f given entries (found.Conflict id) = IsConflict given (literals entries) id
+
+-- the reasons of a trail, and behind them the conflict
+abbrev pub conflict_hints : List Entry → ℕ → List ℕ
+conflict_hints entries id = reasons entries ++ id ∷ []
+
+-- the learned clause of a conflict, and the lemma that refutes where nothing was decided
+abbrev pub learned_line : List Entry → ℕ → Line
+learned_line entries id = Learned (clause (refuted_decisions entries)) (conflict_hints entries id)
+
+abbrev pub refuting_line : List Entry → ℕ → Line
+refuting_line entries id = Lemma (clause []) (conflict_hints entries id)
