@@ -13,9 +13,9 @@ model words files out answer told is = printed (subst (Tells (Row words files) (
   printed (text, row, got) = elim row [
     | inl checked ↦ absurd checked.1
     | inr solved ↦ (
-      let found = solved.2 in
-      (found.0, found.3.1.0, found.2, found.3.1.1, subst (Got out.old.written out.new.written) found.3.1.2 got)
-    )
+        let found = solved.2 in
+        (found.0, found.3.1.0, found.2, found.3.1.1, subst (Got out.old.written out.new.written) found.3.1.2 got)
+        )
   ]
 
 pub refuted : (words : List (List ℕ)) (files : Files) (out : Change Sink) (answer : Answer) → Tells (Row words files) (Stops words files) out answer → answer ≡ Refuted → Refutes files.formula files.proof_out
@@ -24,9 +24,9 @@ refuted words files out answer told is = written (subst (Tells (Row words files)
   written (text, row, got) = elim row [
     | inl checked ↦ absurd checked.1
     | inr solved ↦ (
-      let found = solved.2 in
-      (found.0, found.1, found.2, found.3.0.got, found.3.1, found.3.2)
-    )
+        let found = solved.2 in
+        (found.0, found.1, found.2, found.3.0.got, found.3.1, found.3.2)
+        )
   ]
 
 pub unknown : (words : List (List ℕ)) (files : Files) (out : Change Sink) (answer : Answer) → Tells (Row words files) (Stops words files) out answer → (learned : ℕ) → answer ≡ Unknown learned → IsSolveWithin words learned × Exhausts learned files.formula files.proof_out
@@ -35,7 +35,7 @@ unknown words files out answer told learned is = written (subst (Tells (Row word
   written (text, row, got) = elim row [
     | inl checked ↦ absurd checked.1
     | inr solved ↦ (
-      let found = solved.2 in
-      (subst (IsSolveWithin words) (sym found.3.1) solved.1, (found.0, found.1, found.2, found.3.0.got, found.3.0.steps, found.3.2))
-    )
+        let found = solved.2 in
+        (subst (IsSolveWithin words) (sym found.3.1) solved.1, (found.0, found.1, found.2, found.3.0.got, found.3.0.steps, found.3.2))
+        )
   ]

@@ -48,9 +48,11 @@ header_fails f p h got =
     (all_bytes f [], stepping f [] (start f) (start f) h refl refl tt, subst (λ bytes. GotPrefix p.old.written p.new.written bytes) (header_bytes f) got)
 
 pub no_header : (f : Problem) (p : Change Sink) → IsListed f → p.new.written ≡ p.old.written → GotSteps f p
-no_header f p h same =
-    (all_bytes f [], stepping f [] (start f) (start f) h refl refl tt,
-      subst (λ w. GotPrefix p.old.written w (all_bytes f [])) (sym same) (GotPrefix-from_Got p.old.written p.old.written [] (all_bytes f []) (Got-nil p.old.written)))
+no_header f p h same = (
+  all_bytes f [],
+  stepping f [] (start f) (start f) h refl refl tt,
+  subst (λ w. GotPrefix p.old.written w (all_bytes f [])) (sym same) (GotPrefix-from_Got p.old.written p.old.written [] (all_bytes f []) (Got-nil p.old.written)),
+)
 
 -- what was logged behind the header
 pub record IsBehind (f : Problem) (p : Change Sink) (old : Logged) (mid : Option (List ℕ)) : Type 0 where
@@ -61,9 +63,11 @@ pub record IsBehind (f : Problem) (p : Change Sink) (old : Logged) (mid : Option
 pub memory_ends : (f : Problem) (p : Change Sink) (old new : Logged) (mid : Option (List ℕ)) → IsBehind f p old mid → EndsNot old new mid p.new.written failure.Memory → GotSteps f p
 memory_ends f p old new mid h (learned, learns, whole) =
     let got : Got p.old.written p.new.written (all_bytes f learns.lines) =
-    Got-append p.old.written mid p.new.written (line_bytes (header_of f)) (lines_bytes learns.lines) h.header learns.got in
-    (all_bytes f learns.lines, stepping f learns.lines old.state new.state h.listed h.begun learns.steps learns.spelled,
-      (all_bytes f learns.lines, [], sym (append-nil (all_bytes f learns.lines)), got))
+    Got-append p.old.written mid p.new.written (line_bytes (header_of f)) (lines_bytes learns.lines) h.header learns.got in (
+      all_bytes f learns.lines,
+      stepping f learns.lines old.state new.state h.listed h.begun learns.steps learns.spelled,
+      (all_bytes f learns.lines, [], sym (append-nil (all_bytes f learns.lines)), got),
+    )
 
 pub fault_ends : (f : Problem) (p : Change Sink) (old new : Logged) (mid : Option (List ℕ)) → IsBehind f p old mid → EndsNot old new mid p.new.written failure.WriteFault → GotSteps f p
 fault_ends f p old new mid h (breaks, failed) =
@@ -72,9 +76,11 @@ fault_ends f p old new mid h (breaks, failed) =
     let whole = GotPrefix-append p.old.written breaks.got.0 p.new.written (line_bytes (header_of f) ++ lines_bytes breaks.lines) (line_bytes breaks.last) front breaks.got.2 in
     let is : (line_bytes (header_of f) ++ lines_bytes breaks.lines) ++ line_bytes breaks.last ≡ all_bytes f lines =
     append_assoc (line_bytes (header_of f)) (lines_bytes breaks.lines) (line_bytes breaks.last)
-    ∙ ap (λ bytes. line_bytes (header_of f) ++ bytes) (ap (λ bytes. lines_bytes breaks.lines ++ bytes) (sym (append-nil (line_bytes breaks.last))) ∙ sym (lines_bytes-append breaks.lines (breaks.last ∷ []))) in
-    (all_bytes f lines, stepping f lines old.state new.state h.listed h.begun breaks.steps breaks.spelled,
-      subst (λ bytes. GotPrefix p.old.written p.new.written bytes) is whole)
+    ∙ ap (λ bytes. line_bytes (header_of f) ++ bytes) (ap (λ bytes. lines_bytes breaks.lines ++ bytes) (sym (append-nil (line_bytes breaks.last))) ∙ sym (lines_bytes-append breaks.lines (breaks.last ∷ []))) in (
+      all_bytes f lines,
+      stepping f lines old.state new.state h.listed h.begun breaks.steps breaks.spelled,
+      subst (λ bytes. GotPrefix p.old.written p.new.written bytes) is whole,
+    )
 
 -- what an outcome says of the bytes
 says : (budget : ℕ) (f : Problem) (old new : Logged) (mid w : Option (List ℕ)) (o : Outcome) → IsListed f → old.state ≡ start f → (e : Ends f budget old new mid w o) → Tells f budget e.learned new.state o → OutcomeSays budget f (all_bytes f e.learns.lines) o
@@ -89,12 +95,15 @@ outcome_found budget f p old new mid o h e =
     let got : Got p.old.written p.new.written (all_bytes f e.learns.lines) =
     Got-append p.old.written mid p.new.written (line_bytes (header_of f)) (lines_bytes e.learns.lines) h.header e.learns.got in
     let count : learned_count (all_bytes f e.learns.lines) ≡ e.learned =
-    written_learned f e.learns.lines (vars_fit f.vars h.listed.vars) h.listed.count e.learns.spelled ∙ e.learns.count in
-    (all_bytes f e.learns.lines, record {
-      steps = stepping f e.learns.lines old.state new.state h.listed h.begun e.learns.steps e.learns.spelled;
-      got = got;
-      within = subst (λ n. n ≤ budget) (sym count) e.within;
-    }, says budget f old new mid p.new.written o h.listed h.begun e e.tells)
+    written_learned f e.learns.lines (vars_fit f.vars h.listed.vars) h.listed.count e.learns.spelled ∙ e.learns.count in (
+      all_bytes f e.learns.lines,
+      record {
+        steps = stepping f e.learns.lines old.state new.state h.listed h.begun e.learns.steps e.learns.spelled;
+        got = got;
+        within = subst (λ n. n ≤ budget) (sym count) e.within;
+      },
+      says budget f old new mid p.new.written o h.listed h.begun e e.tells,
+    )
 
 -- the answer of an outcome
 row_of_outcome : (budget : ℕ) (f : Problem) (p : Change Sink) (bytes text : List ℕ) (o : Outcome) (answer : Answer) → Proves budget f p bytes → OutcomeSays budget f bytes o → IsAnswerOf o answer text → SolvedRow budget f p bytes answer text

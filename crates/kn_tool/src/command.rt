@@ -7,7 +7,10 @@ use kn_text::number;
 #[derive(Clone, Copy, Debug)]
 pub enum Command<'a> {
     /// Check a proof for a formula: the names of the two files.
-    Check { formula: &'a [u8], proof: &'a [u8] },
+    Check {
+        formula: &'a [u8],
+        proof: &'a [u8],
+    },
     /// Find a model of a formula, or a proof that there is none, after at most so many learned clauses, of
     /// which at least `forget` are kept; 0 where none is forgotten.
     Solve {
@@ -43,8 +46,7 @@ pub fn parse<'a>(words: &'a [Vec<u8>]) -> Option<Command<'a>>
             })
         }
         [name, formula, proof, options @ ..]
-            if is_solve(name) && !formula.is_empty() && !proof.is_empty() =>
-        {
+            if is_solve(name) && !formula.is_empty() && !proof.is_empty() => {
             let Limits { conflicts, forget } = limits_in(options)?;
             Some(Command::Solve {
                 formula: formula.as_slice(),

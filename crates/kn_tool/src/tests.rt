@@ -224,7 +224,12 @@ fn solved(alloc: Global, formula: &str, more: &[&str]) -> Result<Seen, AllocErro
     let mut words = Vec::new(alloc);
     words.extend_from_slice(&["solve", "F", "P"])?;
     words.extend_from_slice(more)?;
-    run_on(alloc, &words, source(alloc, formula, false)?, source(alloc, "", true)?)
+    run_on(
+        alloc,
+        &words,
+        source(alloc, formula, false)?,
+        source(alloc, "", true)?,
+    )
 }
 
 /// Whether the values behind the first line of a text satisfy a formula.
@@ -243,13 +248,13 @@ fn is_model(alloc: Global, formula: &str, text: &[u8]) -> Result<bool, AllocErro
             let Some(lit) = literal(word) else {
                 continue;
             };
-            if lit.var() <= f.vars() {
+            if lit.var() <= m.vars() {
                 m.set(lit.var(), lit.is_positive());
             }
             values = lit.var();
         }
     }
-    Ok(values == f.vars() && satisfies(&f, &m))
+    Ok(values == f.vars() && m.vars() == f.vars() && satisfies(&f, &m))
 }
 
 /// Whether the proof that was written is accepted.
@@ -275,7 +280,10 @@ fn solve_finds_models_and_proofs(rt: HostRuntime) -> Result<(), Fail> {
         ("p knf 1 1\nk 2 1 0\n", Answer::Refuted),
         ("p knf 0 1\nk 0 0\n", Answer::Model),
         ("p knf 4 2\nq 4 2 1 2 3 0\nk 2 -1 -2 -3 0\n", Answer::Model),
-        ("p knf 4 3\nq 4 2 1 2 3 0\n4 0\nk 2 -1 -2 -3 0\n", Answer::Refuted),
+        (
+            "p knf 4 3\nq 4 2 1 2 3 0\n4 0\nk 2 -1 -2 -3 0\n",
+            Answer::Refuted,
+        ),
         ("p knf 3 3\nq 3 2 1 2 0\n-1 0\n3 0\n", Answer::Refuted),
         ("p knf 2 1\nq -1 3 2 0\n", Answer::Model),
         (TWO_OF_THREE, Answer::Refuted),
@@ -284,7 +292,10 @@ fn solve_finds_models_and_proofs(rt: HostRuntime) -> Result<(), Fail> {
         ("p cnf 1 1\n1 1 1 0\n", Answer::Model),
         ("p cnf 1 2\n1 1 0\n-1 -1 0\n", Answer::Refuted),
         ("p cnf 2 2\n1 -1 0\n-2 0\n", Answer::Model),
-        ("p cnf 2 4\n1 2 0\n1 -2 0\n-1 2 0\n-1 -2 0\n", Answer::Refuted),
+        (
+            "p cnf 2 4\n1 2 0\n1 -2 0\n-1 2 0\n-1 -2 0\n",
+            Answer::Refuted,
+        ),
         ("p cnf 2 3\n1 2 0\n1 -2 0\n-1 2 0\n", Answer::Model),
         ("p cnf 3 3\n1 2 3 0\n-1 -2 0\n-3 1 0\n", Answer::Model),
         (
@@ -299,14 +310,28 @@ fn solve_finds_models_and_proofs(rt: HostRuntime) -> Result<(), Fail> {
             "p knf 6 5\n1 2 0\n3 4 0\n5 6 0\nk 2 -1 -3 -5 0\nk 2 -2 -4 -6 0\n",
             Answer::Refuted,
         ),
-        ("p knf 4 2\nk 3 1 2 3 4 0\nk 1 -1 -2 -3 -4 0\n", Answer::Model),
-        ("p knf 4 2\nk 3 1 2 3 4 0\nk 2 -1 -2 -3 -4 0\n", Answer::Refuted),
+        (
+            "p knf 4 2\nk 3 1 2 3 4 0\nk 1 -1 -2 -3 -4 0\n",
+            Answer::Model,
+        ),
+        (
+            "p knf 4 2\nk 3 1 2 3 4 0\nk 2 -1 -2 -3 -4 0\n",
+            Answer::Refuted,
+        ),
     ];
     for (formula, want) in cases {
         let seen = solved(rt.alloc(), formula, &[])?;
         assert_eq!(rt; seen.answer, want, "{formula}");
-        assert_eq!(rt; is_model(rt.alloc(), formula, &seen.text)?, want == Answer::Model, "{formula}");
-        assert_eq!(rt; is_proved(rt.alloc(), formula, &seen.proof)?, want == Answer::Refuted, "{formula}");
+        assert_eq!(rt;
+            is_model(rt.alloc(), formula, &seen.text)?,
+            want == Answer::Model,
+            "{formula}"
+        );
+        assert_eq!(rt;
+            is_proved(rt.alloc(), formula, &seen.proof)?,
+            want == Answer::Refuted,
+            "{formula}"
+        );
     }
     Ok(())
 }
@@ -317,7 +342,11 @@ fn solve_writes_its_texts(rt: HostRuntime) -> Result<(), Fail> {
     assert_eq!(rt; empty.text.as_slice(), b"s SATISFIABLE\nv 0\n".as_slice());
     assert_eq!(rt; empty.proof.as_slice(), b"p kpf 0 0\n".as_slice());
     assert_eq!(rt; empty.answer.status(), 10);
-    let refuted = solved(rt.alloc(), UNIT_FILE, &["--forget", "0", "--conflicts", "7"])?;
+    let refuted = solved(
+        rt.alloc(),
+        UNIT_FILE,
+        &["--forget", "0", "--conflicts", "7"],
+    )?;
     assert_eq!(rt; refuted.text.as_slice(), b"s UNSATISFIABLE\n".as_slice());
     assert_eq!(rt; refuted.answer.status(), 20);
     let unknown = solved(rt.alloc(), PAIRS, &["--conflicts", "0"])?;
@@ -325,7 +354,10 @@ fn solve_writes_its_texts(rt: HostRuntime) -> Result<(), Fail> {
     assert_eq!(rt; unknown.answer.status(), 0);
     assert_eq!(rt; unknown.proof.as_slice(), b"p kpf 3 6\n".as_slice());
     let refused = solved(rt.alloc(), "p cnf 1 1\n2 0\n", &[])?;
-    assert_eq!(rt; refused.text.as_slice(), b"c refused line 2 cause 6\n".as_slice());
+    assert_eq!(rt;
+        refused.text.as_slice(),
+        b"c refused line 2 cause 6\n".as_slice()
+    );
     assert_eq!(rt; refused.proof.len(), 0);
     Ok(())
 }
@@ -338,7 +370,12 @@ fn a_sink_of_the_proof_that_fails_is_named(rt: HostRuntime) -> Result<(), Fail> 
     let formula = source(rt.alloc(), UNIT_FILE, false)?;
     let unused = source(rt.alloc(), "", true)?;
     let seen = run_into(rt.alloc(), &["solve", "F", "P"], formula, unused, sink)?;
-    assert_eq!(rt; seen.answer, Answer::WriteFault { which: Which::Proof });
+    assert_eq!(rt;
+        seen.answer,
+        Answer::WriteFault {
+            which: Which::Proof
+        }
+    );
     assert_eq!(rt; seen.answer.status(), 4);
     assert_eq!(rt; seen.proof.as_slice(), b"p kp".as_slice());
     assert_eq!(rt; seen.text.len(), 0);

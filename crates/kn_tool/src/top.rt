@@ -29,13 +29,13 @@ pub fn run<F: Source, Q: Source, O: Sink, P: Sink>(
     // What each answer says of the words, the files and the text that was written.
     ensures tells { Tells
         (Row (texts words.now) (files_change
-            (source_change F.left F.given F.faults formula.old formula.new)
-            (source_change Q.left Q.given Q.faults proof_in.old proof_in.new)
-            (sink_change P.written P.faults proof_out.old proof_out.new)))
+        (source_change F.left F.given F.faults formula.old formula.new)
+        (source_change Q.left Q.given Q.faults proof_in.old proof_in.new)
+        (sink_change P.written P.faults proof_out.old proof_out.new)))
         (Stops (texts words.now) (files_change
-            (source_change F.left F.given F.faults formula.old formula.new)
-            (source_change Q.left Q.given Q.faults proof_in.old proof_in.new)
-            (sink_change P.written P.faults proof_out.old proof_out.new)))
+        (source_change F.left F.given F.faults formula.old formula.new)
+        (source_change Q.left Q.given Q.faults proof_in.old proof_in.new)
+        (sink_change P.written P.faults proof_out.old proof_out.new)))
         (sink_change O.written O.faults out.old out.new) result }
     // Both files were read to their ends, the first spells a formula, the second is an accepted proof
     // for it, and so it has no model.
@@ -87,13 +87,13 @@ fn decide<F: Source, Q: Source, P: Sink>(
 ) -> Reply
     ensures reply { IsReply
         (Row (texts words.now) (files_change
-            (source_change F.left F.given F.faults formula.old formula.new)
-            (source_change Q.left Q.given Q.faults proof_in.old proof_in.new)
-            (sink_change P.written P.faults proof_out.old proof_out.new)))
+        (source_change F.left F.given F.faults formula.old formula.new)
+        (source_change Q.left Q.given Q.faults proof_in.old proof_in.new)
+        (sink_change P.written P.faults proof_out.old proof_out.new)))
         (Stops (texts words.now) (files_change
-            (source_change F.left F.given F.faults formula.old formula.new)
-            (source_change Q.left Q.given Q.faults proof_in.old proof_in.new)
-            (sink_change P.written P.faults proof_out.old proof_out.new))) result }
+        (source_change F.left F.given F.faults formula.old formula.new)
+        (source_change Q.left Q.given Q.faults proof_in.old proof_in.new)
+        (sink_change P.written P.faults proof_out.old proof_out.new))) result }
     ensures usage { HasNoShape (texts words.now) → result ≡ Reply.Usage }
     ensures unnamed_formula { HasNoShape (texts words.now) → formula.new ≡ formula.old }
     ensures unnamed_proof { (IsCheck (texts words.now) → ⊥) → proof_in.new ≡ proof_in.old }
@@ -107,9 +107,13 @@ fn decide<F: Source, Q: Source, P: Sink>(
             let answer = check_files(alloc, formula, proof_in);
             reply_of(alloc, answer)
         }
-        Some(Command::Solve {
-            conflicts, forget, ..
-        }) => {
+        Some(
+            Command::Solve {
+                conflicts,
+                forget,
+                ..
+            },
+        ) => {
             let options = Options { conflicts, forget };
             solve_file(alloc, formula, proof_out, options)
         }

@@ -12,9 +12,11 @@ returns-in-Err-Memory-clause-err g c =
 
 pub returns-in-Err-Fault-clause-err : goal.returns-in-Err-Fault-clause-err
 returns-in-Err-Fault-clause-err g c =
-    let opens = c.in-Err-Fault.ensures.opens in
-    (c.in-Err-Fault.ensures.fault (ap Err c.in-Err-Fault.field-0-is), header_fails c.args.f.now (sink_change g.P.Sink.written g.P.Sink.faults c.args.proof.now c.new.new.sink)
-    (record { vars = c.requires; count = c.new.ensures.counted }) (rw c.in-Err-Fault.field-0-is at opens))
+    let opens = c.in-Err-Fault.ensures.opens in (
+      c.in-Err-Fault.ensures.fault (ap Err c.in-Err-Fault.field-0-is),
+      header_fails c.args.f.now (sink_change g.P.Sink.written g.P.Sink.faults c.args.proof.now c.new.new.sink)
+          (record { vars = c.requires; count = c.new.ensures.counted }) (rw c.in-Err-Fault.field-0-is at opens),
+    )
 
 pub returns-in-Ok-search-clause-found : goal.returns-in-Ok-search-clause-found
 returns-in-Ok-search-clause-found g c =
@@ -31,7 +33,9 @@ returns-in-Err-Memory-search-clause-err g c =
 
 pub returns-clause-err : goal.returns-clause-err
 returns-clause-err g c =
-    let ends = c.in-Err-WriteFault.ensures.error in
-    (rose_further _ _ _ c.new.ensures.later (c.in-Err-WriteFault.ensures.fault (ap Err c.in-Err-WriteFault.field-0-is)), fault_ends c.args.f.now (sink_change g.P.Sink.written g.P.Sink.faults c.args.proof.now c.search.new.sink) c.in-Ok.log c.search.new.log _
-    (record { listed = record { vars = c.requires; count = c.new.ensures.counted }; begun = ap (λ (l : Logged). l.state) c.in-Ok.ensures.opens.0; header = c.in-Ok.ensures.opens.1 })
-    (rw c.in-Err-WriteFault.field-0-is at ends))
+    let ends = c.in-Err-WriteFault.ensures.error in (
+      rose_further _ _ _ c.new.ensures.later (c.in-Err-WriteFault.ensures.fault (ap Err c.in-Err-WriteFault.field-0-is)),
+      fault_ends c.args.f.now (sink_change g.P.Sink.written g.P.Sink.faults c.args.proof.now c.search.new.sink) c.in-Ok.log c.search.new.log _
+          (record { listed = record { vars = c.requires; count = c.new.ensures.counted }; begun = ap (λ (l : Logged). l.state) c.in-Ok.ensures.opens.0; header = c.in-Ok.ensures.opens.1 })
+          (rw c.in-Err-WriteFault.field-0-is at ends),
+    )
