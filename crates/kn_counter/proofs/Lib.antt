@@ -1,2 +1,4 @@
 mod Examples
 pub mod GridLemmas
+pub mod Adding
+pub mod RowForms
