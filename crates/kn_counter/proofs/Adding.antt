@@ -1,7 +1,7 @@
 -- Clauses that are added one after another.
 use Rattle.std.proofs.Common.{◌≡◌, ℕ, zero, suc, ◌+◌, ◌-◌, ◌≤◌, ◌<◌, List, [], ◌∷◌, ◌++◌, map, refl, ap, append_assoc, append-nil, arith}
-use Rattle.std.specs.List.{AllByRecursion, flat_map}
-use Rattle.kn_logic.specs.Literals.{Literal, IsKnown, AreKnown}
+use Rattle.std.specs.List.{flat_map}
+use Rattle.kn_logic.specs.Literals.{Literal, negated, AreKnown}
 use Rattle.kn_logic.specs.Constraints.{Bounded}
 use Rattle.kn_logic.specs.Formulas.{Problem}
 use Rattle.kn_counter.specs.Counters.{counting}
@@ -35,3 +35,7 @@ map_step front clause_of old now first count next h e is =
 pub flat_step : (front : List Literal) (clauses_at : ℕ → List (List Literal)) (old now : Problem) (first count next : ℕ) → 0 < count → next ≡ count - 1 → now ≡ with_clauses front old (clauses_at first) → with_clauses front now (flat_map clauses_at (counting (first + 1) next)) ≡ with_clauses front old (flat_map clauses_at (counting first count))
 flat_step front clauses_at old now first count next h e is =
     rw (counting_step first count h, e, is) (clauses_twice front old (clauses_at first) (flat_map clauses_at (counting (first + 1) (count - 1))))
+
+pub known_negations : (vars : ℕ) (lits : List Literal) → AreKnown vars lits → AreKnown vars (map negated lits)
+known_negations vars [] h = tt
+known_negations vars (l ∷ lits) h = (h.0, known_negations vars lits h.1)

@@ -1,9 +1,9 @@
 -- A counter is written row by row.
-use Rattle.std.proofs.Common.{◌≡◌, ℕ, zero, suc, ◌+◌, ◌-◌, ◌*◌, ◌≤◌, List, [], ◌∷◌, ◌++◌, map, refl, sym, ap, ap₂, ◌∙◌, arith, suc-mul}
+use Rattle.std.proofs.Common.{◌≡◌, ℕ, suc, ◌+◌, ◌-◌, ◌*◌, ◌≤◌, List, [], ◌∷◌, ◌++◌, refl, sym, ap, ap₂, ◌∙◌, arith, suc-mul}
 use Rattle.std.specs.List.{flat_map}
 use Rattle.kn_logic.specs.Literals.{Literal, negated}
 use Rattle.kn_logic.specs.Formulas.{Problem}
-use Rattle.kn_counter.specs.Counters.{counting, first_row, middle_row, overflow, rows_from, counter}
+use Rattle.kn_counter.specs.Counters.{counting, middle_row, rows_from, counter}
 use Rattle.kn_counter.specs.Rows.{row_literal, first_at, middle_at, overflow_at, rows_at, with_clauses}
 use Rattle.kn_counter.proofs.Adding.{clauses_twice}
 

@@ -1,6 +1,6 @@
 -- Sequential counters: clauses, and further variables, for "at most k of x1 to xn" (Sinz, CP 2005). The
 -- further variable s(i, j) is forced where at least j of x1 to xi are true.
-use Rattle.std.specs.Prelude.{ℕ, zero, suc, ◌≡◌, ◌≤◌, ◌<◌, ◌+◌, ◌-◌, ◌*◌, ◌==◌, nat_lt, ◌&&◌, Bool, true, false, if◌then◌else◌, List, [], ◌∷◌, ◌++◌, length, map, Option, Some, None, option_to_list, option_map}
+use Rattle.std.specs.Prelude.{ℕ, zero, suc, ◌+◌, ◌-◌, ◌*◌, ◌==◌, nat_lt, ◌&&◌, Bool, true, if◌then◌else◌, List, [], ◌∷◌, ◌++◌, length, map, Option, option_to_list, option_map}
 use Rattle.std.specs.List.{flat_map}
 use Rattle.kn_logic.specs.Literals.{Literal, negated}
 use Rattle.kn_logic.specs.Constraints.{Bounded, clause}

@@ -1,7 +1,7 @@
 -- The grid of a count over literals l1 to ln: node (i, j) says that at least j of li to ln are true. A
 -- node that is neither always true nor always false says "if li then (i + 1, j - 1) else (i + 1, j)", as
 -- in the decision diagram of a cardinality constraint (Eén and Sörensson, JSAT 2006).
-use Rattle.std.specs.Prelude.{ℕ, ◌≡◌, ◌≤◌, ◌<◌, ◌+◌, ◌-◌, ◌==◌, nat_lt, ◌↔◌, Bool, true, false, if◌then◌else◌, List, length, drop, slice_get, Some}
+use Rattle.std.specs.Prelude.{ℕ, ◌≡◌, ◌≤◌, ◌+◌, ◌-◌, ◌==◌, nat_lt, ◌↔◌, Bool, true, false, if◌then◌else◌, List, drop, slice_get, Some}
 use Rattle.kn_logic.specs.Literals.{Literal}
 use Rattle.kn_logic.specs.Assignments.{is_true, true_places}
 use Rattle.kn_counter.specs.declared.grid.Cell.{Cell}

@@ -23,11 +23,11 @@ pub fn counted(alloc: Global, f: &Formula) -> Result<Formula, CountError>
     requires vars { f.now.vars ≤ 1000000 }
     requires constraints { length f.now.constraints ≤ 10000000 }
     ensures clauses { IfOk result (λ g. g ≡ counted f.now) }
-    ensures within { IfOk result (λ g. g.vars ≤ 10000000) }
+    ensures within { IfOk result (λ g. g.vars ≤ MAX_COUNTED) }
     ensures all { IfOk result (λ g. AllByRecursion (λ c. is_clause c ≡ true) g.constraints) }
     ensures extended { IfOk result (λ g. (values : List Bool) → Satisfies values f.now → (more : List Bool) × Satisfies (values ++ more) g) }
     ensures cut { IfOk result (λ g. (values : List Bool) → Satisfies values g → Satisfies (take f.now.vars values) f.now) }
-    ensures large { IfErr result (λ e. IfTooLarge e (λ vars. (10000000 < (counted f.now).vars) × (vars ≡ min (counted f.now).vars (2 ^ 64 - 1)))) }
+    ensures large { IfErr result (λ e. IfTooLarge e (λ vars. (MAX_COUNTED < (counted f.now).vars) × (vars ≡ min (counted f.now).vars (2 ^ 64 - 1)))) }
 {
     let vars = needed_vars(f);
     if vars > MAX_COUNTED {

@@ -7,9 +7,11 @@ mod clauses;
 mod counting;
 mod error;
 mod grid;
+mod laws;
 mod rows;
 mod sizes;
 
 pub use counting::{MAX_COUNTED, counted};
 pub use error::CountError;
 pub use grid::{Cell, grid_cell, grid_says};
+pub use laws::counted_keeps_models;

@@ -102,7 +102,12 @@ fn push_row(
     if !is_last {
         return push_middle(alloc, out, front, start, k, x);
     }
-    push_clause(alloc, out, front, &[x.negated(), row_lit(start, k).negated()])
+    push_clause(
+        alloc,
+        out,
+        front,
+        &[x.negated(), row_lit(start, k).negated()],
+    )
 }
 
 fn push_middle(
@@ -124,7 +129,12 @@ fn push_middle(
     push_clause(alloc, out, front, &[x.negated(), here])?;
     push_clause(alloc, out, front, &[row_lit(start, 1).negated(), here])?;
     push_carried(alloc, out, front, start, k, x)?;
-    push_clause(alloc, out, front, &[x.negated(), row_lit(start, k).negated()])
+    push_clause(
+        alloc,
+        out,
+        front,
+        &[x.negated(), row_lit(start, k).negated()],
+    )
 }
 
 /// Adds the clauses by which the second and all later variables of a row follow from the row above it.
@@ -167,7 +177,12 @@ fn push_step(
     ensures { OnOk result (out.new ≡ with_clauses front.now out.old (carried_at start k x j)) }
 {
     let here = row_lit(start + k, j);
-    push_clause(alloc, out, front, &[x.negated(), row_lit(start, j - 1).negated(), here])?;
+    push_clause(
+        alloc,
+        out,
+        front,
+        &[x.negated(), row_lit(start, j - 1).negated(), here],
+    )?;
     push_clause(alloc, out, front, &[row_lit(start, j).negated(), here])
 }
 

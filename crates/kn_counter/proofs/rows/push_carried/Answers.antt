@@ -1,4 +1,4 @@
-use Rattle.std.proofs.Common.{◌≡◌, ◌+◌, ◌-◌, ◌≤◌, ◌∙◌, sym, ap, subst, arith}
+use Rattle.std.proofs.Common.{◌+◌, ◌-◌, ◌∙◌, sym, ap, subst, arith}
 use Rattle.kn_logic.specs.Literals.{IsKnown, AreKnown}
 use Rattle.kn_logic.specs.Formulas.{Problem}
 use Rattle.kn_counter.specs.Rows.{carried_at}
