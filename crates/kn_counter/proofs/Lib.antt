@@ -6,3 +6,4 @@ pub mod ClauseTruth
 pub mod RowTruth
 pub mod BoundTruth
 pub mod Models
+pub mod Numbered

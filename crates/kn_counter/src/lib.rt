@@ -15,3 +15,6 @@ pub use counting::{MAX_COUNTED, counted};
 pub use error::CountError;
 pub use grid::{Cell, grid_cell, grid_says};
 pub use laws::counted_keeps_models;
+
+#[cfg(test)]
+mod tests;

@@ -1,8 +1,8 @@
-ghost use Rattle.std.specs.Prelude.{◌≡◌, ◌≤◌, ◌<◌, ◌+◌, ◌-◌, ◌*◌, ◌^◌, false, length, OnOk};
+ghost use Rattle.std.specs.Prelude.{◌≡◌, ◌≤◌, ◌<◌, ◌+◌, ◌-◌, ◌*◌, ◌^◌, ◌∷◌, [], false, length, OnOk};
 ghost use Rattle.std.specs.List.{flat_map};
 ghost use Rattle.kn_logic.specs.Literals.{IsKnown, AreKnown};
 ghost use Rattle.kn_counter.specs.Counters.{counting, counter};
-ghost use Rattle.kn_counter.specs.Rows.{row_literal, first_at, carried_at, middle_at, row_at, rows_at, with_clauses};
+ghost use Rattle.kn_counter.specs.Rows.{row_literal, first_at, carried_at, overflow_at, middle_at, row_at, rows_at, with_clauses};
 
 use crate::clauses::push_clause;
 use kn_logic::{Formula, Lit, NoMemory};
