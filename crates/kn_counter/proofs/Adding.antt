@@ -1,5 +1,5 @@
 -- Clauses that are added one after another.
-use Rattle.std.proofs.Common.{◌≡◌, ℕ, zero, suc, ◌+◌, ◌-◌, ◌≤◌, ◌<◌, List, [], ◌∷◌, ◌++◌, map, refl, ap, append_assoc, append-nil, arith}
+use Rattle.std.proofs.Common.{◌≡◌, ℕ, zero, suc, ◌+◌, ◌-◌, ◌≤◌, ◌<◌, List, [], ◌∷◌, ◌++◌, map, refl, ap, append_assoc, arith}
 use Rattle.std.specs.List.{flat_map}
 use Rattle.kn_logic.specs.Literals.{Literal, negated, AreKnown}
 use Rattle.kn_logic.specs.Constraints.{Bounded}
@@ -10,9 +10,6 @@ use Rattle.kn_counter.specs.Rows.{after, with_more, with_clauses}
 map_append : {A B : Type 0} (f : A → B) (xs ys : List A) → map f (xs ++ ys) ≡ map f xs ++ map f ys
 map_append f [] ys = refl
 map_append f (x ∷ xs) ys = ap (λ r. f x ∷ r) (map_append f xs ys)
-
-pub more_nil : (f : Problem) → with_more f [] ≡ f
-more_nil f = ap (λ cs. record { vars = f.vars; constraints = cs }) (append-nil f.constraints)
 
 pub more_twice : (f : Problem) (a b : List Bounded) → with_more (with_more f a) b ≡ with_more f (a ++ b)
 more_twice f a b = ap (λ cs. record { vars = f.vars; constraints = cs }) (append_assoc f.constraints a b)

@@ -1,8 +1,8 @@
 -- Lists of literals of the variables from 1 to a number, which the tests make.
-use Rattle.std.proofs.Common.{◌≡◌, ℕ, ◌+◌, ◌≤◌, ◌<◌, ◌||◌, eqb, false, List, [], ◌∷◌, ◌++◌, refl, arith}
+use Rattle.std.proofs.Common.{◌≡◌, ℕ, ◌+◌, ◌<◌, false, List, [], ◌∷◌, ◌++◌, refl, arith}
 use Rattle.std.proofs.lemmas.Bool.{or_from, or_parts, ne_eqb}
 use Rattle.kn_logic.specs.Literals.{Literal, IsKnown, AreKnown, names, AreDifferent}
-use Rattle.kn_logic.specs.Constraints.{Bounded, guarded_klause, Fits}
+use Rattle.kn_logic.specs.Constraints.{guarded_klause, Fits}
 use Rattle.kn_counter.proofs.Adding.{known_weaker}
 
 pub known-push : (n : ℕ) (lits : List Literal) (x : Literal) → AreKnown n lits → IsKnown (n + 1) x → AreKnown (n + 1) (lits ++ x ∷ [])

@@ -9,6 +9,7 @@ ghost use Rattle.kn_counter.specs.Sizes.{IfTooLarge};
 
 use crate::CountError;
 use crate::clauses::{negations, push_clause, push_units};
+use crate::row::Row;
 use crate::rows::push_counter;
 use crate::sizes::{further_vars, needed_vars};
 use kn_logic::{Constraint, Formula, Lit, NoMemory};
@@ -17,8 +18,12 @@ use std::alloc::Global;
 /// The most variables that a formula of clauses may have.
 pub const MAX_COUNTED: u64 = 10_000_000;
 
-/// The formula in clauses alone: its variables and further ones behind them. It has the same models: each
-/// model of one, with values for the further variables, is one of the other.
+/// The formula in clauses alone, over its variables and further ones behind them. It has the same models:
+/// each model of the formula, with some values for the further variables, is one of the clauses, and each
+/// model of the clauses, cut to the formula's variables, is one of the formula. The formula has at most
+/// 1,000,000 variables and 10,000,000 constraints. An error exactly where the clauses need more variables
+/// than `MAX_COUNTED`, which is found before the first is made, or where memory is wanting. The time is in
+/// proportion to the literals that are read and written.
 pub fn counted(alloc: Global, f: &Formula) -> Result<Formula, CountError>
     requires vars { f.now.vars ≤ 1000000 }
     requires constraints { length f.now.constraints ≤ 10000000 }
@@ -38,6 +43,7 @@ pub fn counted(alloc: Global, f: &Formula) -> Result<Formula, CountError>
     Ok(out)
 }
 
+/// Adds the clauses of all constraints of a formula over so many variables.
 fn push_all(
     alloc: Global,
     out: &mut Formula,
@@ -57,6 +63,8 @@ fn push_all(
     Ok(())
 }
 
+/// Adds the clauses of a constraint, whose further variables are the ones behind `base`. Where there is a
+/// guard, its negation is the head of each.
 fn push_constraint(
     alloc: Global,
     out: &mut Formula,
@@ -74,6 +82,8 @@ fn push_constraint(
     }
 }
 
+/// Adds the clauses for "at least `bound` of these literals", each behind the literals of `front`. A bound
+/// above 1 and below their number is said of their negations: at most n - `bound` of them are true.
 fn push_bound(
     alloc: Global,
     out: &mut Formula,
@@ -102,5 +112,9 @@ fn push_bound(
         return push_units(alloc, out, front, lits);
     }
     let negations = negations(alloc, lits)?;
-    push_counter(alloc, out, front, base, n - bound, &negations)
+    let first = Row {
+        start: base,
+        k: n - bound,
+    };
+    push_counter(alloc, out, front, first, &negations)
 }

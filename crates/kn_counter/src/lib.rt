@@ -8,6 +8,7 @@ mod counting;
 mod error;
 mod grid;
 mod laws;
+mod row;
 mod rows;
 mod sizes;
 

@@ -7,7 +7,7 @@ use Rattle.kn_counter.proofs.rows.push_carried.Given as goal
 
 abbrev pub invariant-loop-j : goal.invariant-loop-j
 invariant-loop-j l = record {
-  whole : with_clauses l.front l.out (flat_map (carried_at l.start l.k l.x) (counting l.j (l.k + 1 - l.j))) ≡ with_clauses l.front l.fn.out (flat_map (carried_at l.start l.k l.x) (counting 2 (l.k - 1)));
+  whole : with_clauses l.front l.out (flat_map (carried_at l.above.start l.above.k l.x) (counting l.j (l.above.k + 1 - l.j))) ≡ with_clauses l.front l.fn.out (flat_map (carried_at l.above.start l.above.k l.x) (counting 2 (l.above.k - 1)));
   front : AreKnown l.out.vars l.front;
   x : IsKnown l.out.vars l.x;
   vars : l.out.vars ≡ l.fn.out.vars;

@@ -7,5 +7,5 @@ pub returns : goal.returns
 returns c =
     let split : c.args.lits.now ≡ c.in-Some.x.now ∷ c.in-Some.rest.now = search rules in
     on_ok_weaker c.push_rows.result
-    (λ added. counter-added c.args.front.now c.args.out.now _ _ c.args.base c.args.k c.args.lits.now c.in-Some.x.now c.in-Some.rest.now split c.in_ok-push_first.ensures added)
+    (λ added. counter-added c.args.front.now c.args.out.now _ _ c.args.first.start c.args.first.k c.args.lits.now c.in-Some.x.now c.in-Some.rest.now split c.in_ok-push_first.ensures added)
     c.push_rows.ensures
