@@ -1,0 +1,4 @@
+pub mod Grids
+pub mod Counters
+pub mod Rows
+pub mod Sizes

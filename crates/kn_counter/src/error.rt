@@ -1,0 +1,30 @@
+ghost use Rattle.std.specs.Prelude.{◌≡◌};
+ghost use Rattle.kn_counter.specs.declared.error.CountError.TheVariants.{Memory};
+
+use std::alloc::{AllocError, AllocFailed};
+
+/// Why a formula was not turned into clauses.
+#[derive(Clone, Copy, Debug, PartialEq, Eq)]
+pub enum CountError {
+    /// The clauses would need so many variables, more than `MAX_COUNTED`; 2^64 - 1 stands for all
+    /// numbers from there on.
+    TooLarge { vars: u64 },
+    /// Want of memory.
+    Memory,
+}
+
+impl From<AllocError> for CountError {
+    ghost from_gives = { λ _ e. e ≡ Memory };
+
+    fn from(_: AllocError) -> CountError {
+        CountError::Memory
+    }
+}
+
+impl<T: Drop> From<AllocFailed<T>> for CountError {
+    ghost from_gives = { λ _ e. e ≡ Memory };
+
+    fn from(_: AllocFailed<T>) -> CountError {
+        CountError::Memory
+    }
+}
