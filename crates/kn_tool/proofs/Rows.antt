@@ -10,7 +10,7 @@ use Rattle.kn_format.specs.Reading.{IfRefused}
 use Rattle.kn_tool.specs.declared.answer.Which.{Which}
 use Rattle.kn_tool.specs.declared.answer.Which.TheVariants.{Formula, Proof, Out}
 use Rattle.kn_tool.specs.declared.answer.Answer.{Answer}
-use Rattle.kn_tool.specs.declared.answer.Answer.TheVariants.{Model, Refuted, Unknown, Verified, NotVerified, Refused, TooLong, Usage, ReadFault, WriteFault, NoMemory}
+use Rattle.kn_tool.specs.declared.answer.Answer.TheVariants.{Model, Refuted, Unknown, Done, Verified, NotVerified, Refused, TooLong, Usage, ReadFault, WriteFault, NoMemory}
 use Rattle.kn_tool.specs.declared.reply.Reply.{Reply}
 use Rattle.kn_tool.specs.declared.reply.Reply.TheVariants as reply
 use Rattle.kn_tool.specs.Words.{HasNoShape}
@@ -19,7 +19,8 @@ use Rattle.kn_tool.specs.Changes.{Change, Source, Sink, Untouched, GivesAll}
 use Rattle.kn_tool.specs.Files.{Accepts, FormulaRow, answer_to_fault}
 use Rattle.kn_tool.specs.Checks.{CheckRow}
 use Rattle.kn_tool.specs.Solves.{SolvedRow, SolveRow, SolveStops, IsSolvedReply}
-use Rattle.kn_tool.specs.Outcomes.{Files, IsCheck, IsSolve, IsSolveWithin, Row, Stops, Tells, IsReply, IsPlain, Sent, Told, AnswersUsage}
+use Rattle.kn_tool.specs.Conversions.{CountedRow, IsCountedReply, IsTooLarge, ConvertRow, ConvertStops}
+use Rattle.kn_tool.specs.Outcomes.{Files, IsCheck, IsSolve, IsConvert, IsSolveWithin, Row, Stops, Tells, IsReply, IsPlain, Sent, Told, AnswersUsage}
 
 -- what is known of a text whose reading gave this error
 abbrev FirstFaultIn : List ℕ → ReadError → Type 0
@@ -44,6 +45,7 @@ refused_row : (budget : ℕ) (formula : Change Source) (proof : Change Sink) (te
 refused_row budget formula proof text Model row same is never = absurd row
 refused_row budget formula proof text Refuted row same is never = absurd row
 refused_row budget formula proof text (Unknown learned) row same is never = absurd row
+refused_row budget formula proof text Done row same is never = absurd row
 refused_row budget formula proof text Verified row same is never = absurd row
 refused_row budget formula proof text (NotVerified line why) row same is never = absurd row
 refused_row budget formula proof text (Refused line why) row same is never = (row, same, is)
@@ -68,6 +70,7 @@ solved_row : (budget : ℕ) (formula : Change Source) (proof : Change Sink) (f :
 solved_row budget formula proof f Model text accepts row = (f, row.0, accepts, row.1)
 solved_row budget formula proof f Refuted text accepts row = (f, row.0, accepts, row.1)
 solved_row budget formula proof f (Unknown learned) text accepts row = (f, row.0, accepts, row.1)
+solved_row budget formula proof f Done text accepts row = absurd row.1
 solved_row budget formula proof f Verified text accepts row = absurd row.1
 solved_row budget formula proof f (NotVerified line why) text accepts row = absurd row.1
 solved_row budget formula proof f (Refused line why) text accepts row = absurd row.1
@@ -83,6 +86,7 @@ solved_reply budget formula proof f reply.Usage accepts row = absurd row
 solved_reply budget formula proof f (reply.Silent Model) accepts stops = stops
 solved_reply budget formula proof f (reply.Silent Refuted) accepts stops = stops
 solved_reply budget formula proof f (reply.Silent (Unknown learned)) accepts stops = stops
+solved_reply budget formula proof f (reply.Silent Done) accepts stops = stops
 solved_reply budget formula proof f (reply.Silent Verified) accepts stops = stops
 solved_reply budget formula proof f (reply.Silent (NotVerified line why)) accepts stops = stops
 solved_reply budget formula proof f (reply.Silent (Refused line why)) accepts stops = stops
@@ -99,6 +103,7 @@ checked_row : (words : List (List ℕ)) (files : Files) (answer : Answer) (text 
 checked_row words files Model text asked row same is never = absurd row
 checked_row words files Refuted text asked row same is never = absurd row
 checked_row words files (Unknown learned) text asked row same is never = absurd row
+checked_row words files Done text asked row same is never = absurd row
 checked_row words files Verified text asked row same is never = inl (asked, row, same, is)
 checked_row words files (NotVerified line why) text asked row same is never = inl (asked, row, same, is)
 checked_row words files (Refused line why) text asked row same is never = inl (asked, row, same, is)
@@ -115,28 +120,100 @@ checked_reply words files answer reply.Usage asked row same plain = absurd plain
 checked_reply words files answer (reply.Silent told) asked row same plain = inl (plain, asked, same)
 
 searched_row : (words : List (List ℕ)) (files : Files) (budget : ℕ) (answer : Answer) (text : List ℕ) → IsSolveWithin words budget → SolveRow budget files.formula files.proof_out answer text → Untouched files.proof_in → Row words files answer text
-searched_row words files budget Model text asked row same = inr (budget, asked, row, same)
-searched_row words files budget Refuted text asked row same = inr (budget, asked, row, same)
-searched_row words files budget (Unknown learned) text asked row same = inr (budget, asked, row, same)
+searched_row words files budget Model text asked row same = inr (inl (budget, asked, row, same))
+searched_row words files budget Refuted text asked row same = inr (inl (budget, asked, row, same))
+searched_row words files budget (Unknown learned) text asked row same = inr (inl (budget, asked, row, same))
+searched_row words files budget Done text asked row same = absurd row
 searched_row words files budget Verified text asked row same = absurd row
 searched_row words files budget (NotVerified line why) text asked row same = absurd row
-searched_row words files budget (Refused line why) text asked row same = inr (budget, asked, row, same)
-searched_row words files budget (TooLong which) text asked row same = inr (budget, asked, row, same)
+searched_row words files budget (Refused line why) text asked row same = inr (inl (budget, asked, row, same))
+searched_row words files budget (TooLong which) text asked row same = inr (inl (budget, asked, row, same))
 searched_row words files budget Usage text asked row same = absurd row
-searched_row words files budget (ReadFault which) text asked row same = inr (budget, asked, row, same)
+searched_row words files budget (ReadFault which) text asked row same = inr (inl (budget, asked, row, same))
 searched_row words files budget (WriteFault which) text asked row same = absurd row
 searched_row words files budget NoMemory text asked row same = absurd row
 
 pub searched_reply : (words : List (List ℕ)) (files : Files) (budget : ℕ) (r : Reply) → IsSolveWithin words budget → IsReply (SolveRow budget files.formula files.proof_out) (SolveStops files.formula files.proof_out) r → Untouched files.proof_in → IsReply (Row words files) (Stops words files) r
 searched_reply words files budget (reply.Text answer text) asked row same = searched_row words files budget answer text.items asked row same
 searched_reply words files budget reply.Usage asked row same = absurd row
-searched_reply words files budget (reply.Silent answer) asked stops same = inr ((budget, asked), stops, same)
+searched_reply words files budget (reply.Silent answer) asked stops same = inr (inl ((budget, asked), stops, same))
+
+-- `convert` of a file that spells no formula
+refused_convert_row : (formula : Change Source) (text : List ℕ) (answer : Answer) → FormulaRow formula answer → text ≡ answer_text answer → (answer ≡ NoMemory → ⊥) → ConvertRow formula answer text
+refused_convert_row formula text Model row is never = absurd row
+refused_convert_row formula text Refuted row is never = absurd row
+refused_convert_row formula text (Unknown learned) row is never = absurd row
+refused_convert_row formula text Done row is never = absurd row
+refused_convert_row formula text Verified row is never = absurd row
+refused_convert_row formula text (NotVerified line why) row is never = absurd row
+refused_convert_row formula text (Refused line why) row is never = (inl row, is)
+refused_convert_row formula text (TooLong Formula) row is never = (row.1, is)
+refused_convert_row formula text (TooLong Proof) row is never = let wrong = row.0 in absurd cc
+refused_convert_row formula text (TooLong Out) row is never = let wrong = row.0 in absurd cc
+refused_convert_row formula text Usage row is never = absurd row
+refused_convert_row formula text (ReadFault Formula) row is never = (row.1, is)
+refused_convert_row formula text (ReadFault Proof) row is never = let wrong = row.0 in absurd cc
+refused_convert_row formula text (ReadFault Out) row is never = let wrong = row.0 in absurd cc
+refused_convert_row formula text (WriteFault which) row is never = absurd row
+refused_convert_row formula text NoMemory row is never = absurd (never refl)
+
+pub refused_convert : (formula : Change Source) (answer : Answer) (r : Reply) → FormulaRow formula answer → IsPlain answer r → IsReply (ConvertRow formula) ConvertStops r
+refused_convert formula answer (reply.Text told text) row plain =
+    subst (λ a. ConvertRow formula a text.items) (sym plain.0) (refused_convert_row formula text.items answer row plain.1 plain.2)
+refused_convert formula answer reply.Usage row plain = absurd plain
+refused_convert formula answer (reply.Silent told) row plain = plain
+
+-- `convert` of a file that spells a formula
+counted_row : (formula : Change Source) (f : Problem) (answer : Answer) (text : List ℕ) → Accepts formula f → CountedRow f answer text → ConvertRow formula answer text
+counted_row formula f Model text accepts row = absurd row
+counted_row formula f Refuted text accepts row = absurd row
+counted_row formula f (Unknown learned) text accepts row = absurd row
+counted_row formula f Done text accepts row = (f, accepts, row.0, row.1)
+counted_row formula f Verified text accepts row = absurd row
+counted_row formula f (NotVerified line why) text accepts row = absurd row
+counted_row formula f (Refused line why) text accepts row = (inr (row.0, row.1, (f, accepts, row.2)), row.3)
+counted_row formula f (TooLong which) text accepts row = absurd row
+counted_row formula f Usage text accepts row = absurd row
+counted_row formula f (ReadFault which) text accepts row = absurd row
+counted_row formula f (WriteFault which) text accepts row = absurd row
+counted_row formula f NoMemory text accepts row = absurd row
+
+pub counted_reply : (formula : Change Source) (f : Problem) (r : Reply) → Accepts formula f → IsCountedReply f r → IsReply (ConvertRow formula) ConvertStops r
+counted_reply formula f (reply.Text answer text) accepts row = counted_row formula f answer text.items accepts row
+counted_reply formula f reply.Usage accepts row = absurd row
+counted_reply formula f (reply.Silent answer) accepts short = short
+
+-- a formula that needs too many variables
+pub too_large : (f : Problem) (r : Reply) → IsTooLarge f → IsPlain (Refused 0 12) r → IsCountedReply f r
+too_large f (reply.Text answer text) large plain = subst (λ a. CountedRow f a text.items) (sym plain.0) (refl, refl, large, plain.1)
+too_large f reply.Usage large plain = absurd plain
+too_large f (reply.Silent answer) large plain = plain
+
+converted_row : (words : List (List ℕ)) (files : Files) (answer : Answer) (text : List ℕ) → IsConvert words → ConvertRow files.formula answer text → Untouched files.proof_in → Untouched files.proof_out → Row words files answer text
+converted_row words files Model text asked row same same_too = absurd row
+converted_row words files Refuted text asked row same same_too = absurd row
+converted_row words files (Unknown learned) text asked row same same_too = absurd row
+converted_row words files Done text asked row same same_too = inr (inr (asked, row, same, same_too))
+converted_row words files Verified text asked row same same_too = absurd row
+converted_row words files (NotVerified line why) text asked row same same_too = absurd row
+converted_row words files (Refused line why) text asked row same same_too = inr (inr (asked, row, same, same_too))
+converted_row words files (TooLong which) text asked row same same_too = inr (inr (asked, row, same, same_too))
+converted_row words files Usage text asked row same same_too = absurd row
+converted_row words files (ReadFault which) text asked row same same_too = inr (inr (asked, row, same, same_too))
+converted_row words files (WriteFault which) text asked row same same_too = absurd row
+converted_row words files NoMemory text asked row same same_too = absurd row
+
+pub converted_reply : (words : List (List ℕ)) (files : Files) (r : Reply) → IsConvert words → IsReply (ConvertRow files.formula) ConvertStops r → Untouched files.proof_in → Untouched files.proof_out → IsReply (Row words files) (Stops words files) r
+converted_reply words files (reply.Text answer text) asked row same same_too = converted_row words files answer text.items asked row same same_too
+converted_reply words files reply.Usage asked row same same_too = absurd row
+converted_reply words files (reply.Silent answer) asked short same same_too = inr (inr (short, asked, same, same_too))
 
 -- a text that was sent
 told_whole : (words : List (List ℕ)) (files : Files) (out : Change Sink) (answer : Answer) (text : List ℕ) → Row words files answer text → Got out.old.written out.new.written text → Tells (Row words files) (Stops words files) out answer
 told_whole words files out Model text row got = (text, row, got)
 told_whole words files out Refuted text row got = (text, row, got)
 told_whole words files out (Unknown learned) text row got = (text, row, got)
+told_whole words files out Done text row got = (text, row, got)
 told_whole words files out Verified text row got = (text, row, got)
 told_whole words files out (NotVerified line why) text row got = (text, row, got)
 told_whole words files out (Refused line why) text row got = (text, row, got)
@@ -153,19 +230,26 @@ sent_tells words files out answer result text row sent = elim sent [
 ]
 
 -- an answer without a text
+never_stops : (words : List (List ℕ)) (files : Files) (answer : Answer) → Stops words files answer → (answer ≡ NoMemory → ⊥) → (SolveStops files.formula files.proof_out answer → ⊥) → ⊥
+never_stops words files answer stops never_short never_solved = elim stops [
+  | inl checked ↦ never_short checked.0
+  | inr other ↦ elim other [ inl solved ↦ never_solved solved.1 | inr converted ↦ never_short converted.0 ]
+]
+
 silent_tells : (words : List (List ℕ)) (files : Files) (out : Change Sink) (answer : Answer) → Stops words files answer → out.new.written ≡ out.old.written → Tells (Row words files) (Stops words files) out answer
-silent_tells words files out Model stops same = elim stops [ inl short ↦ (let wrong = short.0 in absurd cc) | inr other ↦ absurd other.1 ]
-silent_tells words files out Refuted stops same = elim stops [ inl short ↦ (let wrong = short.0 in absurd cc) | inr other ↦ absurd other.1 ]
-silent_tells words files out (Unknown learned) stops same = elim stops [ inl short ↦ (let wrong = short.0 in absurd cc) | inr other ↦ absurd other.1 ]
-silent_tells words files out Verified stops same = elim stops [ inl short ↦ (let wrong = short.0 in absurd cc) | inr other ↦ absurd other.1 ]
-silent_tells words files out (NotVerified line why) stops same = elim stops [ inl short ↦ (let wrong = short.0 in absurd cc) | inr other ↦ absurd other.1 ]
-silent_tells words files out (Refused line why) stops same = elim stops [ inl short ↦ (let wrong = short.0 in absurd cc) | inr other ↦ absurd other.1 ]
-silent_tells words files out (TooLong which) stops same = elim stops [ inl short ↦ (let wrong = short.0 in absurd cc) | inr other ↦ absurd other.1 ]
-silent_tells words files out Usage stops same = elim stops [ inl short ↦ (let wrong = short.0 in absurd cc) | inr other ↦ absurd other.1 ]
-silent_tells words files out (ReadFault which) stops same = elim stops [ inl short ↦ (let wrong = short.0 in absurd cc) | inr other ↦ absurd other.1 ]
-silent_tells words files out (WriteFault Formula) stops same = elim stops [ inl short ↦ (let wrong = short.0 in absurd cc) | inr other ↦ absurd other.1 ]
+silent_tells words files out Model stops same = absurd (never_stops words files Model stops (λ e. absurd cc) (λ e. e))
+silent_tells words files out Refuted stops same = absurd (never_stops words files Refuted stops (λ e. absurd cc) (λ e. e))
+silent_tells words files out (Unknown learned) stops same = absurd (never_stops words files (Unknown learned) stops (λ e. absurd cc) (λ e. e))
+silent_tells words files out Done stops same = absurd (never_stops words files Done stops (λ e. absurd cc) (λ e. e))
+silent_tells words files out Verified stops same = absurd (never_stops words files Verified stops (λ e. absurd cc) (λ e. e))
+silent_tells words files out (NotVerified line why) stops same = absurd (never_stops words files (NotVerified line why) stops (λ e. absurd cc) (λ e. e))
+silent_tells words files out (Refused line why) stops same = absurd (never_stops words files (Refused line why) stops (λ e. absurd cc) (λ e. e))
+silent_tells words files out (TooLong which) stops same = absurd (never_stops words files (TooLong which) stops (λ e. absurd cc) (λ e. e))
+silent_tells words files out Usage stops same = absurd (never_stops words files Usage stops (λ e. absurd cc) (λ e. e))
+silent_tells words files out (ReadFault which) stops same = absurd (never_stops words files (ReadFault which) stops (λ e. absurd cc) (λ e. e))
+silent_tells words files out (WriteFault Formula) stops same = absurd (never_stops words files (WriteFault Formula) stops (λ e. absurd cc) (λ e. e))
 silent_tells words files out (WriteFault Proof) stops same = (stops, same)
-silent_tells words files out (WriteFault Out) stops same = elim stops [ inl short ↦ (let wrong = short.0 in absurd cc) | inr other ↦ absurd other.1 ]
+silent_tells words files out (WriteFault Out) stops same = absurd (never_stops words files (WriteFault Out) stops (λ e. absurd cc) (λ e. e))
 silent_tells words files out NoMemory stops same = (stops, same)
 
 pub reply_tells : (words : List (List ℕ)) (files : Files) (out : Change Sink) (r : Reply) (result : Answer) → IsReply (Row words files) (Stops words files) r → Told r out result → Tells (Row words files) (Stops words files) out result

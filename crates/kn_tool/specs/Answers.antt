@@ -3,12 +3,13 @@ use Rattle.std.specs.Prelude.{ℕ, List, [], ◌++◌, codes, decimal}
 use Rattle.kn_tool.specs.declared.answer.Which.{Which}
 use Rattle.kn_tool.specs.declared.answer.Which.TheVariants.{Formula, Proof, Out}
 use Rattle.kn_tool.specs.declared.answer.Answer.{Answer}
-use Rattle.kn_tool.specs.declared.answer.Answer.TheVariants.{Model, Refuted, Unknown, Verified, NotVerified, Refused, TooLong, Usage, ReadFault, WriteFault, NoMemory}
+use Rattle.kn_tool.specs.declared.answer.Answer.TheVariants.{Model, Refuted, Unknown, Done, Verified, NotVerified, Refused, TooLong, Usage, ReadFault, WriteFault, NoMemory}
 
 abbrev pub status_of : Answer → ℕ
 status_of Model = 10
 status_of Refuted = 20
 status_of (Unknown learned) = 0
+status_of Done = 0
 status_of Verified = 0
 status_of (NotVerified line why) = 30
 status_of (Refused line why) = 1
@@ -30,11 +31,13 @@ place_text line why = codes "line " ++ decimal line ++ codes " cause " ++ decima
 abbrev pub usage_text : List ℕ
 usage_text = codes "c usage: knf check F P | knf solve F P [--conflicts N] [--forget N] | knf extract F | knf convert F | knf work N\n"
 
--- The text of a model goes on with the values. The two last answers have no text.
+-- The text of a model goes on with the values; a command that is done prints what it made. The two last answers
+-- have no text.
 abbrev pub answer_text : Answer → List ℕ
 answer_text Model = codes "s SATISFIABLE\n"
 answer_text Refuted = codes "s UNSATISFIABLE\n"
 answer_text (Unknown learned) = codes "s UNKNOWN\n"
+answer_text Done = []
 answer_text Verified = codes "s VERIFIED\n"
 answer_text (NotVerified line why) = codes "c " ++ place_text line why ++ codes "s NOT VERIFIED\n"
 answer_text (Refused line why) = codes "c refused " ++ place_text line why

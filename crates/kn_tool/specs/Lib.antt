@@ -4,5 +4,6 @@ pub mod Changes
 pub mod Files
 pub mod Checks
 pub mod Solves
+pub mod Conversions
 pub mod Outcomes
 pub mod Complete

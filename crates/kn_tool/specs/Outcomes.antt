@@ -7,11 +7,12 @@ use Rattle.kn_tool.specs.declared.answer.Answer.{Answer}
 use Rattle.kn_tool.specs.declared.answer.Answer.TheVariants.{Usage, WriteFault, NoMemory}
 use Rattle.kn_tool.specs.declared.reply.Reply.{Reply}
 use Rattle.kn_tool.specs.declared.reply.Reply.TheVariants as reply
-use Rattle.kn_tool.specs.Words.{Asked, check, solve, HasShape, HasNoShape}
+use Rattle.kn_tool.specs.Words.{Asked, check, solve, convert, HasShape, HasNoShape}
 use Rattle.kn_tool.specs.Answers.{answer_text, usage_text}
 use Rattle.kn_tool.specs.Changes.{Change, Source, Sink, Untouched}
 use Rattle.kn_tool.specs.Checks.{CheckRow}
 use Rattle.kn_tool.specs.Solves.{SolveRow, SolveStops}
+use Rattle.kn_tool.specs.Conversions.{ConvertRow}
 
 abbrev pub IsCheck : List (List ℕ) → Type 0
 IsCheck words = (formula : List ℕ) × (proof : List ℕ) × HasShape words (check formula proof)
@@ -23,6 +24,9 @@ IsSolveWithin words budget =
 
 abbrev pub IsSolve : List (List ℕ) → Type 0
 IsSolve words = (budget : ℕ) × IsSolveWithin words budget
+
+abbrev pub IsConvert : List (List ℕ) → Type 0
+IsConvert words = (formula : List ℕ) × HasShape words (convert formula)
 
 -- the objects of a run but the sink of the answers
 pub record Files : Type 0 where
@@ -42,12 +46,14 @@ Row words files (WriteFault which) text = ⊥
 Row words files answer text =
     (IsCheck words × CheckRow files.formula files.proof_in answer × Untouched files.proof_out × (text ≡ answer_text answer))
     ⊎ ((budget : ℕ) × IsSolveWithin words budget × SolveRow budget files.formula files.proof_out answer text × Untouched files.proof_in)
+    ⊎ (IsConvert words × ConvertRow files.formula answer text × Untouched files.proof_in × Untouched files.proof_out)
 
 -- what an answer without a text says of them
 abbrev pub Stops : List (List ℕ) → Files → Answer → Type 0
 Stops words files answer =
     ((answer ≡ NoMemory) × IsCheck words × Untouched files.proof_out)
     ⊎ (IsSolve words × SolveStops files.formula files.proof_out answer × Untouched files.proof_in)
+    ⊎ ((answer ≡ NoMemory) × IsConvert words × Untouched files.proof_in × Untouched files.proof_out)
 
 -- What stands on the sink of the answers. Where writing fails, it is a front of the text of an answer that
 -- would have been right; where an answer has no text, nothing was written.

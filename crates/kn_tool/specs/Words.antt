@@ -11,6 +11,7 @@ use Rattle.kn_tool.specs.declared.command.Names.{Names}
 pub data Asked : Type 0 where
   check : List ℕ → List ℕ → Asked
   solve : List ℕ → List ℕ → ℕ → ℕ → Asked
+  convert : List ℕ → Asked
 
 -- a word that may name a file
 abbrev pub IsName : List ℕ → Type 0
@@ -64,9 +65,15 @@ AsksSolve (name ∷ f ∷ p ∷ options) formula proof conflicts forget =
     (name ≡ codes "solve") × (f ≡ formula) × (p ≡ proof) × IsName formula × IsName proof × SpellsOptions options conflicts forget
 AsksSolve words formula proof conflicts forget = ⊥
 
+-- `convert F`
+abbrev pub AsksConvert : List (List ℕ) → List ℕ → Type 0
+AsksConvert (name ∷ f ∷ []) formula = (name ≡ codes "convert") × (f ≡ formula) × IsName formula
+AsksConvert words formula = ⊥
+
 abbrev pub HasShape : List (List ℕ) → Asked → Type 0
 HasShape words (check formula proof) = AsksCheck words formula proof
 HasShape words (solve formula proof conflicts forget) = AsksSolve words formula proof conflicts forget
+HasShape words (convert formula) = AsksConvert words formula
 
 -- The words ask for no command.
 abbrev pub HasNoShape : List (List ℕ) → Type 0
@@ -79,6 +86,7 @@ texts words = map (λ word. word.items) words
 abbrev pub asked_by : Command → Asked
 asked_by (command.Check formula proof) = check formula.now proof.now
 asked_by (command.Solve formula proof conflicts forget) = solve formula.now proof.now conflicts forget
+asked_by (command.Convert formula) = convert formula.now
 
 -- the names of the files that a command opens; none where it does not use such a file
 pub record Named : Type 0 where
@@ -89,6 +97,7 @@ pub record Named : Type 0 where
 abbrev pub named_by : Asked → Named
 named_by (check formula proof) = record { formula = Some formula; proof_in = Some proof; proof_out = None }
 named_by (solve formula proof conflicts forget) = record { formula = Some formula; proof_in = None; proof_out = Some proof }
+named_by (convert formula) = record { formula = Some formula; proof_in = None; proof_out = None }
 
 abbrev pub no_names : Named
 no_names = record { formula = None; proof_in = None; proof_out = None }

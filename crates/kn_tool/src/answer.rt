@@ -25,6 +25,8 @@ pub enum Answer {
     Refuted,
     /// As many clauses were learned as the words allow, and neither was found.
     Unknown { learned: u64 },
+    /// What was asked for was written.
+    Done,
     /// The proof is accepted, and so the formula has no model.
     Verified,
     /// The proof is not accepted: the first line that is wrong, and its cause.
@@ -51,7 +53,7 @@ impl Answer {
         match self {
             Answer::Model => 10,
             Answer::Refuted => 20,
-            Answer::Unknown { .. } | Answer::Verified => 0,
+            Answer::Unknown { .. } | Answer::Done | Answer::Verified => 0,
             Answer::NotVerified { .. } => 30,
             Answer::Refused { .. } | Answer::TooLong { .. } => 1,
             Answer::Usage => 2,
@@ -62,7 +64,8 @@ impl Answer {
     }
 }
 
-/// The text of an answer; empty for those that have none. That of a model goes on with the values.
+/// The text of an answer; empty for those that have none. That of a model goes on with the values,
+/// and where a command is done its text is what it made.
 pub fn text_of(alloc: Global, answer: &Answer) -> Result<Vec<u8>, AllocError>
     ensures { IfOk result (λ text. text.items ≡ answer_text answer.now) }
 {
@@ -84,7 +87,7 @@ pub fn text_of(alloc: Global, answer: &Answer) -> Result<Vec<u8>, AllocError>
         Answer::TooLong { which } => push_source(&mut text, b"c too long ", *which)?,
         Answer::Usage => text.extend_from_slice(USAGE)?,
         Answer::ReadFault { which } => push_source(&mut text, b"c read fault ", *which)?,
-        Answer::WriteFault { .. } | Answer::NoMemory => (),
+        Answer::Done | Answer::WriteFault { .. } | Answer::NoMemory => (),
     }
     Ok(text)
 }

@@ -1,5 +1,5 @@
-ghost use Rattle.std.specs.Prelude.{◌≡◌, ◌↔◌, ℕ, IfSome, IfNone, IsTrue, codes};
-ghost use Rattle.kn_tool.specs.Words.{HasShape, HasNoShape, SpellsOption, SpellsBoth, SpellsOptions, count_of, texts, asked_by};
+ghost use Rattle.std.specs.Prelude.{◌≡◌, ◌↔◌, ℕ, List, IfSome, IfNone, IsTrue, codes};
+ghost use Rattle.kn_tool.specs.Words.{AsksCheck, AsksSolve, AsksConvert, HasShape, HasNoShape, SpellsOption, SpellsBoth, SpellsOptions, count_of, texts, asked_by};
 
 use kn_text::number;
 
@@ -18,6 +18,10 @@ pub enum Command<'a> {
         proof: &'a [u8],
         conflicts: u64,
         forget: u64,
+    },
+    /// Turn a formula into clauses: the name of its file.
+    Convert {
+        formula: &'a [u8],
     },
 }
 
@@ -38,6 +42,19 @@ pub fn parse<'a>(words: &'a [Vec<u8>]) -> Option<Command<'a>>
     ensures some { IfSome result (λ c. HasShape (texts words.now) (asked_by c)) }
     ensures none { IfNone result (HasNoShape (texts words.now)) }
 {
+    if let Some(command) = check_command(words) {
+        return Some(command);
+    }
+    if let Some(command) = solve_command(words) {
+        return Some(command);
+    }
+    convert_command(words)
+}
+
+fn check_command<'a>(words: &'a [Vec<u8>]) -> Option<Command<'a>>
+    ensures some { IfSome result (λ c. HasShape (texts words.now) (asked_by c)) }
+    ensures none { IfNone result ((formula : List ℕ) (proof : List ℕ) → AsksCheck (texts words.now) formula proof → ⊥) }
+{
     match words {
         [name, formula, proof] if is_check(name) && !formula.is_empty() && !proof.is_empty() => {
             Some(Command::Check {
@@ -45,6 +62,15 @@ pub fn parse<'a>(words: &'a [Vec<u8>]) -> Option<Command<'a>>
                 proof: proof.as_slice(),
             })
         }
+        _ => None,
+    }
+}
+
+fn solve_command<'a>(words: &'a [Vec<u8>]) -> Option<Command<'a>>
+    ensures some { IfSome result (λ c. HasShape (texts words.now) (asked_by c)) }
+    ensures none { IfNone result ((formula : List ℕ) (proof : List ℕ) (conflicts : ℕ) (forget : ℕ) → AsksSolve (texts words.now) formula proof conflicts forget → ⊥) }
+{
+    match words {
         [name, formula, proof, options @ ..]
             if is_solve(name) && !formula.is_empty() && !proof.is_empty() => {
             let Limits { conflicts, forget } = limits_in(options)?;
@@ -59,6 +85,18 @@ pub fn parse<'a>(words: &'a [Vec<u8>]) -> Option<Command<'a>>
     }
 }
 
+fn convert_command<'a>(words: &'a [Vec<u8>]) -> Option<Command<'a>>
+    ensures some { IfSome result (λ c. HasShape (texts words.now) (asked_by c)) }
+    ensures none { IfNone result ((formula : List ℕ) → AsksConvert (texts words.now) formula → ⊥) }
+{
+    match words {
+        [name, formula] if is_convert(name) && !formula.is_empty() => Some(Command::Convert {
+            formula: formula.as_slice(),
+        }),
+        _ => None,
+    }
+}
+
 fn is_check(word: &[u8]) -> bool
     ensures { IsTrue result ↔ (word.now ≡ codes "check") }
 {
@@ -69,6 +107,12 @@ fn is_solve(word: &[u8]) -> bool
     ensures { IsTrue result ↔ (word.now ≡ codes "solve") }
 {
     word == b"solve".as_slice()
+}
+
+fn is_convert(word: &[u8]) -> bool
+    ensures { IsTrue result ↔ (word.now ≡ codes "convert") }
+{
+    word == b"convert".as_slice()
 }
 
 /// The limits that the options set; each stands there once at most, in either order.

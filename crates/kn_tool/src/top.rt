@@ -4,11 +4,13 @@ ghost use Rattle.kn_tool.specs.Changes.{source_change, sink_change};
 ghost use Rattle.kn_tool.specs.Checks.{Verifies, CheckRow};
 ghost use Rattle.kn_tool.specs.declared.answer.Answer.TheVariants.{Unknown};
 ghost use Rattle.kn_tool.specs.Solves.{PrintsModel, Refutes, Exhausts};
-ghost use Rattle.kn_tool.specs.Outcomes.{files_change, IsCheck, IsSolve, IsSolveWithin, Row, Stops, Tells, IsReply, IsPlain, Told, Sent, AnswersUsage};
-ghost use Rattle.kn_tool.specs.Complete.{IsSound, IsQuiet, Decides, Concludes};
+ghost use Rattle.kn_tool.specs.Conversions.{PrintsClauses};
+ghost use Rattle.kn_tool.specs.Outcomes.{files_change, IsCheck, IsSolve, IsConvert, IsSolveWithin, Row, Stops, Tells, IsReply, IsPlain, Told, Sent, AnswersUsage};
+ghost use Rattle.kn_tool.specs.Complete.{IsSound, IsQuiet, Decides, Concludes, Converts};
 
 use crate::answer::USAGE;
 use crate::checking::check_files;
+use crate::converting::convert_file;
 use crate::reply::{Reply, reply_of};
 use crate::solving::solve_file;
 use crate::{Answer, Command, Which, parse};
@@ -53,6 +55,9 @@ pub fn run<F: Source, Q: Source, O: Sink, P: Sink>(
     ensures unknown { (learned : ℕ) → result ≡ Unknown learned → IsSolveWithin (texts words.now) learned × Exhausts learned
         (source_change F.left F.given F.faults formula.old formula.new)
         (sink_change P.written P.faults proof_out.old proof_out.new) }
+    // The file spells a formula, and clauses with the same models were written.
+    ensures done { result ≡ Answer.Done → PrintsClauses
+        (source_change F.left F.given F.faults formula.old formula.new) (sink_change O.written O.faults out.old out.new) }
     ensures usage { HasNoShape (texts words.now) → AnswersUsage result }
     // Where nothing fails, the answer is what the texts say, unless memory is short.
     ensures decides { (text : List ℕ) (more : List ℕ) → IsCheck (texts words.now) →
@@ -63,6 +68,9 @@ pub fn run<F: Source, Q: Source, O: Sink, P: Sink>(
         IsSound (source_change F.left F.given F.faults formula.old formula.new) text →
         IsQuiet (sink_change P.written P.faults proof_out.old proof_out.new) →
         IsQuiet (sink_change O.written O.faults out.old out.new) → Concludes text result }
+    ensures converts { (text : List ℕ) → IsConvert (texts words.now) →
+        IsSound (source_change F.left F.given F.faults formula.old formula.new) text →
+        IsQuiet (sink_change O.written O.faults out.old out.new) → Converts text result }
 
     // Objects that have no name in these words.
     ensures unnamed_formula { HasNoShape (texts words.now) → formula.new ≡ formula.old }
@@ -117,6 +125,7 @@ fn decide<F: Source, Q: Source, P: Sink>(
             let options = Options { conflicts, forget };
             solve_file(alloc, formula, proof_out, options)
         }
+        Some(Command::Convert { .. }) => convert_file(alloc, formula),
         None => Reply::Usage,
     }
 }

@@ -1,7 +1,7 @@
 use Rattle.kn_tool.specs.Changes.{sink_change}
 use Rattle.kn_tool.proofs.Rows.{reply_tells, told_usage}
-use Rattle.kn_tool.proofs.Complete.{decides, concludes}
-use Rattle.kn_tool.proofs.Headline.{model, refuted, unknown}
+use Rattle.kn_tool.proofs.Complete.{decides, concludes, converts}
+use Rattle.kn_tool.proofs.Headline.{model, refuted, unknown, done}
 use Rattle.kn_tool.proofs.top.run.Goals as goal
 
 pub returns-clause-tells : goal.returns-clause-tells
@@ -29,3 +29,11 @@ returns-clause-refuted g c =
 pub returns-clause-unknown : goal.returns-clause-unknown
 returns-clause-unknown g c =
     unknown _ _ (sink_change g.O.Sink.written g.O.Sink.faults c.args.out.now c.tell.new.out) _ (reply_tells _ _ _ c.decide-reply.result _ c.decide-reply.ensures.reply c.tell.ensures.told)
+
+pub returns-clause-done : goal.returns-clause-done
+returns-clause-done g c =
+    done _ _ (sink_change g.O.Sink.written g.O.Sink.faults c.args.out.now c.tell.new.out) _ (reply_tells _ _ _ c.decide-reply.result _ c.decide-reply.ensures.reply c.tell.ensures.told)
+
+pub returns-clause-converts : goal.returns-clause-converts
+returns-clause-converts g c = λ text asked sound quiet.
+    converts _ _ _ _ (reply_tells _ _ (sink_change g.O.Sink.written g.O.Sink.faults c.args.out.now c.tell.new.out) c.decide-reply.result _ c.decide-reply.ensures.reply c.tell.ensures.told) text asked sound quiet
