@@ -71,7 +71,7 @@ last-alone (x ∷ front) l d =
 pub different-alone : (lits : List Literal) → AreDifferent lits → IsLastAlone lits
 different-alone lits d = λ front l e. last-alone front l (subst AreDifferent e d)
 
-known-push : (vars : ℕ) (lits : List Literal) (l : Literal) → AreKnown vars lits → IsKnown vars l → AreKnown vars (lits ++ l ∷ [])
+pub known-push : (vars : ℕ) (lits : List Literal) (l : Literal) → AreKnown vars lits → IsKnown vars l → AreKnown vars (lits ++ l ∷ [])
 known-push vars [] l h k = (k, tt)
 known-push vars (x ∷ lits) l h k = (h.0, known-push vars lits l h.1 k)
 

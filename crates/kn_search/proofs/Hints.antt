@@ -126,12 +126,11 @@ short-conflict trail c guard is on h =
 
 -- just as many are: each of them is forced
 pub forces-bound : (trail : List Literal) (c : Bounded) (guard : Option Literal) (l : Literal) → c.guard ≡ guard → IsOn trail guard → open_places trail c.lits ≡ c.bound → has c.lits l ≡ true → is_open trail l ≡ true → Forces trail c l
-forces-bound trail c guard l is on e stands free =
-    (
-      trail ++ filter (is_open trail) c.lits,
-      after-on trail c.guard c.bound c.lits (subst (IsOn trail) (sym is) on) ∙ bound_met trail c.bound c.lits e,
-      has-right trail (filter (is_open trail) c.lits) l (has-filter (is_open trail) c.lits l stands free)
-    )
+forces-bound trail c guard l is on e stands free = (
+  trail ++ filter (is_open trail) c.lits,
+  after-on trail c.guard c.bound c.lits (subst (IsOn trail) (sym is) on) ∙ bound_met trail c.bound c.lits e,
+  has-right trail (filter (is_open trail) c.lits) l (has-filter (is_open trail) c.lits l stands free),
+)
 
 guard_refuted : (trail : List Literal) (guard : Literal) (bound : ℕ) (lits : List Literal) → has trail guard ≡ false → has trail (negated guard) ≡ false → open_places trail lits < bound → after_guard trail guard bound lits ≡ Some (trail ++ negated guard ∷ [])
 guard_refuted trail guard bound lits e f h =
@@ -141,12 +140,11 @@ guard_refuted trail guard bound lits e f h =
 
 -- the guard has no value, and fewer literals than the bound are not false: the guard's negation is forced
 pub forces-guard : (trail : List Literal) (c : Bounded) (guard : Literal) → c.guard ≡ Some guard → has trail guard ≡ false → has trail (negated guard) ≡ false → open_places trail c.lits < c.bound → Forces trail c (negated guard)
-forces-guard trail c guard is e f h =
-    (
-      trail ++ negated guard ∷ [],
-      subst (λ (o : Option Literal). after_parts trail o c.bound c.lits ≡ Some (trail ++ negated guard ∷ [])) (sym is) (guard_refuted trail guard c.bound c.lits e f h),
-      has-right trail (negated guard ∷ []) (negated guard) (has-first (negated guard) [])
-    )
+forces-guard trail c guard is e f h = (
+  trail ++ negated guard ∷ [],
+  subst (λ (o : Option Literal). after_parts trail o c.bound c.lits ≡ Some (trail ++ negated guard ∷ [])) (sym is) (guard_refuted trail guard c.bound c.lits e f h),
+  has-right trail (negated guard ∷ []) (negated guard) (has-first (negated guard) []),
+)
 
 -- longer lists
 abbrev pub Covers : List Literal → List Literal → Type 0
@@ -219,12 +217,12 @@ bound_grows small big bound lits h =
     (λ e. cond_both (ltb (open_places big lits) bound) _ _ (Grows (Some (small ++ filter (is_open small) lits)))
     (λ _. tt)
     (λ f.
-        let met : open_places small lits ≡ bound = eqb-true _ _ e in
-        let meets : open_places big lits ≡ bound = omega (arith, fewer, met, ltb-false _ _ f) in
-        subst (Grows (Some (small ++ filter (is_open small) lits))) (sym (cond-true _ (Some (big ++ filter (is_open big) lits)) (Some big) (eq-eqb _ _ meets)))
-        (Covers-append small (big ++ filter (is_open big) lits) (filter (is_open small) lits)
-        (λ l k. has-left big (filter (is_open big) lits) l (h l k))
-        (λ l k. has-right big (filter (is_open big) lits) l (same_open small big lits h (omega arith) l k)))))
+    let met : open_places small lits ≡ bound = eqb-true _ _ e in
+    let meets : open_places big lits ≡ bound = omega (arith, fewer, met, ltb-false _ _ f) in
+    subst (Grows (Some (small ++ filter (is_open small) lits))) (sym (cond-true _ (Some (big ++ filter (is_open big) lits)) (Some big) (eq-eqb _ _ meets)))
+    (Covers-append small (big ++ filter (is_open big) lits) (filter (is_open small) lits)
+    (λ l k. has-left big (filter (is_open big) lits) l (h l k))
+    (λ l k. has-right big (filter (is_open big) lits) l (same_open small big lits h (omega arith) l k)))))
     (λ _. Grows-less small big (after_bound big bound lits) h (bound_keeps big bound lits)))
 
 -- the guard of the shorter list has no value there, and its negation joins

@@ -14,3 +14,6 @@ mod trail;
 
 pub use outcome::{Options, Outcome, SearchError};
 pub use searching::search;
+
+#[cfg(test)]
+mod tests;
