@@ -50,14 +50,7 @@ Follows-grows given more before [] h = tt
 Follows-grows given more before (e ∷ es) h =
     (IsForced-grows given more before e.lit e.reason h.0, Follows-grows given more (before ++ e.lit ∷ []) es h.1)
 
-pub IsConflict-grows : (given more : List Given) (lits : List Literal) (id : ℕ) → IsConflict given lits id → IsConflict (given ++ more) lits id
-IsConflict-grows given more lits id (c, live, conflict) = (c, live_at-grows given more id c live, conflict)
-
--- fewer entries, and one more
-pub Follows-front : (given : List Given) (before : List Literal) (front back : List Entry) → Follows given before (front ++ back) → Follows given before front
-Follows-front given before [] back h = tt
-Follows-front given before (e ∷ front) back h = (h.0, Follows-front given (before ++ e.lit ∷ []) front back h.1)
-
+-- one entry more
 pub Follows-push : (given : List Given) (before : List Literal) (entries : List Entry) (entry : Entry) → Follows given before entries → IsForced given (before ++ literals entries) entry.lit entry.reason → Follows given before (entries ++ entry ∷ [])
 Follows-push given before [] entry h forced = (subst (λ (lits : List Literal). IsForced given lits entry.lit entry.reason) (append-nil before) forced, tt)
 Follows-push given before (e ∷ entries) entry h forced =

@@ -53,12 +53,6 @@ has-first l lits = or_left (is_same l l) (has lits l) (same-refl l)
 pub has-one : (x l : Literal) → has (x ∷ []) l ≡ true → l ≡ x
 has-one x l e = elim (or_cases (is_same l x) false e) [ inl s ↦ same_literal l x s | inr f ↦ absurd cc ]
 
--- the literal at a place stands in the list
-pub has-at : (lits : List Literal) (k : ℕ) (l : Literal) → slice_get lits k ≡ Some l → has lits l ≡ true
-has-at [] k l e = absurd cc
-has-at (x ∷ lits) zero l e = or_left (is_same l x) (has lits l) (subst (λ (y : Literal). is_same l y ≡ true) (sym (same_Some x l e)) (same-refl l))
-has-at (x ∷ lits) (suc k) l e = or_right (is_same l x) (has lits l) (has-at lits k l e)
-
 -- what holds of each literal of a list holds of one that stands there
 pub All-has : (P : Literal → Type 0) (lits : List Literal) (l : Literal) → AllByRecursion P lits → has lits l ≡ true → P l
 All-has P [] l h e = absurd cc
