@@ -139,11 +139,11 @@ marked-unmarked marks lits m = record {
 }
 
 -- one literal less
-known-front : (vars : ℕ) (front back : List Literal) → AreKnown vars (front ++ back) → AreKnown vars front
+pub known-front : (vars : ℕ) (front back : List Literal) → AreKnown vars (front ++ back) → AreKnown vars front
 known-front vars [] back h = tt
 known-front vars (l ∷ front) back h = (h.0, known-front vars front back h.1)
 
-pub known-last : (vars : ℕ) (front : List Literal) (l : Literal) → AreKnown vars (front ++ l ∷ []) → IsKnown vars l
+known-last : (vars : ℕ) (front : List Literal) (l : Literal) → AreKnown vars (front ++ l ∷ []) → IsKnown vars l
 known-last vars [] l h = h.0
 known-last vars (x ∷ front) l h = known-last vars front l h.1
 

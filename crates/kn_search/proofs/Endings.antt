@@ -27,12 +27,11 @@ use Rattle.kn_search.proofs.Logging.{Learns-learned, Learns-lemma, Breaks-more, 
 -- the log failed at a line
 pub ends-not : (old mid new : Logged) (w v u : Option (List ℕ)) (n : ℕ) (line : Line) (e : LogError) → Learns old.state mid.state w v n → mid.failed ≡ false → LogsNot line mid new v u e → IsSpelledUnless e line → EndsNot old new w u (error_of e)
 ends-not old mid new w v u n line Fault h whole (e, failed, got) spelled = (Breaks-more old.state mid.state new.state w v u n line h e spelled got, failed)
-ends-not old mid new w v u n line Memory h whole (same, kept) spelled =
-    (
-      n,
-      subst (λ (x : Logged). Learns old.state x.state w u n) (sym same) (subst (λ (x : Option (List ℕ)). Learns old.state mid.state w x n) (sym kept) h),
-      ap (λ (x : Logged). x.failed) same ∙ whole
-    )
+ends-not old mid new w v u n line Memory h whole (same, kept) spelled = (
+  n,
+  subst (λ (x : Logged). Learns old.state x.state w u n) (sym same) (subst (λ (x : Option (List ℕ)). Learns old.state mid.state w x n) (sym kept) h),
+  ap (λ (x : Logged). x.failed) same ∙ whole,
+)
 
 -- the clause without literals was logged
 pub ends-refuted : (f : Problem) (budget : ℕ) (old mid new : Logged) (w v u : Option (List ℕ)) (n : ℕ) (entries : List Entry) (id : ℕ) → Learns old.state mid.state w v n → n ≤ budget → step mid.state (refuting_line entries id) ≡ Ok new.state → new.failed ≡ false → Got v u (line_bytes (refuting_line entries id)) → IsSpelled (refuting_line entries id) → Ends f budget old new w u Refuted

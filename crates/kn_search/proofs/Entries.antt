@@ -8,6 +8,7 @@ use Rattle.std.proofs.lemmas.List.Folds.{list_any-append}
 use Rattle.kn_logic.specs.Literals.{Literal, negated, is_same, has, names, IsKnown, AreKnown, AreDifferent}
 use Rattle.kn_rules.specs.declared.given.Given.{Given}
 use Rattle.kn_rules.specs.Marks.{Assumed, IsLastAlone}
+use Rattle.kn_rules.proofs.MarkLemmas.{known-append, known-front}
 use Rattle.kn_search.specs.declared.trail.Entry.{Entry}
 use Rattle.kn_search.specs.Trails.{Trailed, literals, decisions, IsTrail, has_decision, before_decision, Follows}
 
@@ -71,14 +72,6 @@ last-alone (x ∷ front) l d =
 pub different-alone : (lits : List Literal) → AreDifferent lits → IsLastAlone lits
 different-alone lits d = λ front l e. last-alone front l (subst AreDifferent e d)
 
-known-push : (vars : ℕ) (lits : List Literal) (l : Literal) → AreKnown vars lits → IsKnown vars l → AreKnown vars (lits ++ l ∷ [])
-known-push vars [] l h k = (k, tt)
-known-push vars (x ∷ lits) l h k = (h.0, known-push vars lits l h.1 k)
-
-known-front : (vars : ℕ) (front back : List Literal) → AreKnown vars (front ++ back) → AreKnown vars front
-known-front vars [] back h = tt
-known-front vars (x ∷ front) back h = (h.0, known-front vars front back h.1)
-
 literals-push : (entries : List Entry) (e : Entry) → literals (entries ++ e ∷ []) ≡ literals entries ++ e.lit ∷ []
 literals-push entries e = map-append (λ (x : Entry). x.lit) entries (e ∷ [])
 
@@ -86,7 +79,7 @@ literals-push entries e = map-append (λ (x : Entry). x.lit) entries (e ∷ [])
 pub trail-push : (old new : Assumed) (entries : List Entry) (e : Entry) → IsTrail old entries → new ≡ (record old { lits = old.lits ++ e.lit ∷ [] }) → IsKnown old.vars e.lit → names (literals entries) e.lit.variable ≡ false → IsTrail new (entries ++ e ∷ [])
 trail-push old new entries e t is known unset = subst (λ x. IsTrail x (entries ++ e ∷ [])) (sym is) (record {
   lits = ap (λ (lits : List Literal). lits ++ e.lit ∷ []) t.lits ∙ sym (literals-push entries e);
-  known = subst (AreKnown old.vars) (sym (literals-push entries e)) (known-push old.vars (literals entries) e.lit t.known known);
+  known = subst (AreKnown old.vars) (sym (literals-push entries e)) (known-append old.vars (literals entries) (e.lit ∷ []) t.known (known, tt));
   different = subst AreDifferent (sym (literals-push entries e)) (different-push (literals entries) e.lit t.different unset);
 })
 

@@ -50,14 +50,7 @@ Follows-grows given more before [] h = tt
 Follows-grows given more before (e ∷ es) h =
     (IsForced-grows given more before e.lit e.reason h.0, Follows-grows given more (before ++ e.lit ∷ []) es h.1)
 
-pub IsConflict-grows : (given more : List Given) (lits : List Literal) (id : ℕ) → IsConflict given lits id → IsConflict (given ++ more) lits id
-IsConflict-grows given more lits id (c, live, conflict) = (c, live_at-grows given more id c live, conflict)
-
--- fewer entries, and one more
-pub Follows-front : (given : List Given) (before : List Literal) (front back : List Entry) → Follows given before (front ++ back) → Follows given before front
-Follows-front given before [] back h = tt
-Follows-front given before (e ∷ front) back h = (h.0, Follows-front given (before ++ e.lit ∷ []) front back h.1)
-
+-- one entry more
 pub Follows-push : (given : List Given) (before : List Literal) (entries : List Entry) (entry : Entry) → Follows given before entries → IsForced given (before ++ literals entries) entry.lit entry.reason → Follows given before (entries ++ entry ∷ [])
 Follows-push given before [] entry h forced = (subst (λ (lits : List Literal). IsForced given lits entry.lit entry.reason) (append-nil before) forced, tt)
 Follows-push given before (e ∷ entries) entry h forced =
@@ -120,9 +113,9 @@ behind-reason given before big l (Some id) es (c, live, forces) h d ih cs e =
     subst (λ (hints : List Bounded). Grows (Some ((before ++ l ∷ []) ++ literals es)) (hint_run big hints)) (sym parts.2)
     (next-reaches (after_hint big c) parts.0 ((before ++ l ∷ []) ++ literals es)
     (λ next k. ih next
-        (forced-covers before big l c next h forces k)
-        (λ x m. grown big next (after_hint big c) k (hint-keeps big c) x (d x m))
-        parts.0 parts.1))
+    (forced-covers before big l c next h forces k)
+    (λ x m. grown big next (after_hint big c) k (hint-keeps big c) x (d x m))
+    parts.0 parts.1))
 
 pub run-covers : (given : List Given) (before : List Literal) (entries : List Entry) (big : List Literal) → Follows given before entries → Covers before big → Covers (decisions entries) big → Reaches given big (reasons entries) (before ++ literals entries)
 run-covers given before [] big h k d = λ cs e.
@@ -183,8 +176,8 @@ conflict-follows s o entries id h (c, live, conflict) known =
     let (cs, e) = reasons-live s.given [] entries h in
     let hints : hinted s.given (reasons entries ++ id ∷ []) ≡ Some (cs ++ c ∷ []) = hinted-push s.given (reasons entries) id c cs live e in
     let run : is_conflict (refuted_decisions entries) (cs ++ c ∷ []) ≡ true =
-        subst (λ (lits : List Literal). is_none (hint_run lits (cs ++ c ∷ [])) ≡ true) (sym (map-negated-twice (decisions entries)))
-        (ap (λ (r : Option (List Literal)). is_none r) (conflict-run s.given entries cs c h e conflict)) in
+    subst (λ (lits : List Literal). is_none (hint_run lits (cs ++ c ∷ [])) ≡ true) (sym (map-negated-twice (decisions entries)))
+    (ap (λ (r : Option (List Literal)). is_none r) (conflict-run s.given entries cs c h e conflict)) in
     subst (λ r. IsOk r) (sym (cond-true _ (if_conflict s o (refuted_decisions entries) (hinted s.given (reasons entries ++ id ∷ []))) (Err 3) (known-decisions s.vars entries known)))
     (subst (λ r. IsOk (if_conflict s o (refuted_decisions entries) r)) (sym hints)
     (subst (λ r. IsOk r) (sym (cond-true _ (Ok (with_clause s o (refuted_decisions entries))) (Err 5) run)) refl))

@@ -53,12 +53,6 @@ has-first l lits = or_left (is_same l l) (has lits l) (same-refl l)
 pub has-one : (x l : Literal) → has (x ∷ []) l ≡ true → l ≡ x
 has-one x l e = elim (or_cases (is_same l x) false e) [ inl s ↦ same_literal l x s | inr f ↦ absurd cc ]
 
--- the literal at a place stands in the list
-pub has-at : (lits : List Literal) (k : ℕ) (l : Literal) → slice_get lits k ≡ Some l → has lits l ≡ true
-has-at [] k l e = absurd cc
-has-at (x ∷ lits) zero l e = or_left (is_same l x) (has lits l) (subst (λ (y : Literal). is_same l y ≡ true) (sym (same_Some x l e)) (same-refl l))
-has-at (x ∷ lits) (suc k) l e = or_right (is_same l x) (has lits l) (has-at lits k l e)
-
 -- what holds of each literal of a list holds of one that stands there
 pub All-has : (P : Literal → Type 0) (lits : List Literal) (l : Literal) → AllByRecursion P lits → has lits l ≡ true → P l
 All-has P [] l h e = absurd cc
@@ -126,12 +120,11 @@ short-conflict trail c guard is on h =
 
 -- just as many are: each of them is forced
 pub forces-bound : (trail : List Literal) (c : Bounded) (guard : Option Literal) (l : Literal) → c.guard ≡ guard → IsOn trail guard → open_places trail c.lits ≡ c.bound → has c.lits l ≡ true → is_open trail l ≡ true → Forces trail c l
-forces-bound trail c guard l is on e stands free =
-    (
-      trail ++ filter (is_open trail) c.lits,
-      after-on trail c.guard c.bound c.lits (subst (IsOn trail) (sym is) on) ∙ bound_met trail c.bound c.lits e,
-      has-right trail (filter (is_open trail) c.lits) l (has-filter (is_open trail) c.lits l stands free)
-    )
+forces-bound trail c guard l is on e stands free = (
+  trail ++ filter (is_open trail) c.lits,
+  after-on trail c.guard c.bound c.lits (subst (IsOn trail) (sym is) on) ∙ bound_met trail c.bound c.lits e,
+  has-right trail (filter (is_open trail) c.lits) l (has-filter (is_open trail) c.lits l stands free),
+)
 
 guard_refuted : (trail : List Literal) (guard : Literal) (bound : ℕ) (lits : List Literal) → has trail guard ≡ false → has trail (negated guard) ≡ false → open_places trail lits < bound → after_guard trail guard bound lits ≡ Some (trail ++ negated guard ∷ [])
 guard_refuted trail guard bound lits e f h =
@@ -141,12 +134,11 @@ guard_refuted trail guard bound lits e f h =
 
 -- the guard has no value, and fewer literals than the bound are not false: the guard's negation is forced
 pub forces-guard : (trail : List Literal) (c : Bounded) (guard : Literal) → c.guard ≡ Some guard → has trail guard ≡ false → has trail (negated guard) ≡ false → open_places trail c.lits < c.bound → Forces trail c (negated guard)
-forces-guard trail c guard is e f h =
-    (
-      trail ++ negated guard ∷ [],
-      subst (λ (o : Option Literal). after_parts trail o c.bound c.lits ≡ Some (trail ++ negated guard ∷ [])) (sym is) (guard_refuted trail guard c.bound c.lits e f h),
-      has-right trail (negated guard ∷ []) (negated guard) (has-first (negated guard) [])
-    )
+forces-guard trail c guard is e f h = (
+  trail ++ negated guard ∷ [],
+  subst (λ (o : Option Literal). after_parts trail o c.bound c.lits ≡ Some (trail ++ negated guard ∷ [])) (sym is) (guard_refuted trail guard c.bound c.lits e f h),
+  has-right trail (negated guard ∷ []) (negated guard) (has-first (negated guard) []),
+)
 
 -- longer lists
 abbrev pub Covers : List Literal → List Literal → Type 0
@@ -219,12 +211,12 @@ bound_grows small big bound lits h =
     (λ e. cond_both (ltb (open_places big lits) bound) _ _ (Grows (Some (small ++ filter (is_open small) lits)))
     (λ _. tt)
     (λ f.
-        let met : open_places small lits ≡ bound = eqb-true _ _ e in
-        let meets : open_places big lits ≡ bound = omega (arith, fewer, met, ltb-false _ _ f) in
-        subst (Grows (Some (small ++ filter (is_open small) lits))) (sym (cond-true _ (Some (big ++ filter (is_open big) lits)) (Some big) (eq-eqb _ _ meets)))
-        (Covers-append small (big ++ filter (is_open big) lits) (filter (is_open small) lits)
-        (λ l k. has-left big (filter (is_open big) lits) l (h l k))
-        (λ l k. has-right big (filter (is_open big) lits) l (same_open small big lits h (omega arith) l k)))))
+    let met : open_places small lits ≡ bound = eqb-true _ _ e in
+    let meets : open_places big lits ≡ bound = omega (arith, fewer, met, ltb-false _ _ f) in
+    subst (Grows (Some (small ++ filter (is_open small) lits))) (sym (cond-true _ (Some (big ++ filter (is_open big) lits)) (Some big) (eq-eqb _ _ meets)))
+    (Covers-append small (big ++ filter (is_open big) lits) (filter (is_open small) lits)
+    (λ l k. has-left big (filter (is_open big) lits) l (h l k))
+    (λ l k. has-right big (filter (is_open big) lits) l (same_open small big lits h (omega arith) l k)))))
     (λ _. Grows-less small big (after_bound big bound lits) h (bound_keeps big bound lits)))
 
 -- the guard of the shorter list has no value there, and its negation joins

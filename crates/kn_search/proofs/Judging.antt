@@ -32,9 +32,8 @@ fits-at vars (x ∷ cs) (suc k) c h e = fits-at vars cs k c h.1 e
 pub finds : (f : Problem) (s : ProofState) (t : Trailed) (values : List Bool) (found : Found) → IsSearching f s t → IsFormula f → IsValued t.vars (literals t.entries) → AreDifferent (literals t.entries) → AreValuesOf t.vars (literals t.entries) values → Judges f values found → Finds f s.given t.entries found
 finds f s t values (Model m) search formula valued different are judged = judged
 finds f s t values (Conflict id) search formula valued different are (k, c, is, at, fails) =
-    let within : IsWithin t.vars c = subst (λ n. IsWithin n c) (sym search.vars) (fits-at f.vars f.constraints k c formula at) in
-    (
+    let within : IsWithin t.vars c = subst (λ n. IsWithin n c) (sym search.vars) (fits-at f.vars f.constraints k c formula at) in (
       c,
       subst (λ n. live_at s.given n ≡ Some c) (sym is) (HasFile-live f s.given k c search.file at),
-      total-conflict t.vars (literals t.entries) values c (record { total = valued; different = different; says = are.exact }) within fails
+      total-conflict t.vars (literals t.entries) values c (record { total = valued; different = different; says = are.exact }) within fails,
     )

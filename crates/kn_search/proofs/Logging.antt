@@ -19,11 +19,8 @@ use Rattle.kn_log.specs.Logs.{line_bytes, IsSpelled}
 use Rattle.kn_log.specs.Written.{StepsBy, AreSpelled, lines_bytes, is_learned, learned_in}
 use Rattle.kn_log.proofs.Added.{StepsBy-append, AreSpelled-append, lines_bytes-append}
 use Rattle.kn_search.specs.Outcomes.{Learns, Breaks}
+use Rattle.kn_search.specs.Searches.{HasFile}
 use Rattle.kn_search.proofs.Follow.{live_at-grows}
-
--- no line
-pub Learns-none : (s : ProofState) (w : Option (List ℕ)) → Learns s s w w 0
-Learns-none s w = record { lines = []; steps = refl; spelled = tt; got = Got-nil w; count = refl }
 
 learned_in-push : (lines : List Line) (line : Line) → learned_in (lines ++ line ∷ []) ≡ learned_in lines + cond (is_learned line) 1 0
 learned_in-push [] line = omega arith
@@ -75,13 +72,7 @@ conflict-gives s t o lits (Some hints) e = sym (same_ok (with_clause s o lits) t
 pub follow-gives : (s t : ProofState) (o : Origin) (lits : List Literal) (hints : List ℕ) → follow s o lits hints ≡ Ok t → t ≡ with_clause s o lits
 follow-gives s t o lits hints e = conflict-gives s t o lits (hinted s.given hints) (if-follows _ (if_conflict s o lits (hinted s.given hints)) 3 t e)
 
--- the constraints of the file are the first that are given, each under its place and one
-abbrev pub HasFile : Problem → List Given → Type 0
-HasFile f given = (more : List Given) × (given ≡ map from_file f.constraints ++ more)
-
-pub HasFile-start : (f : Problem) → HasFile f (map from_file f.constraints)
-HasFile-start f = ([], sym (append-nil (map from_file f.constraints)))
-
+-- the constraints of the file are live, each under its place and one
 pub HasFile-push : (f : Problem) (given : List Given) (entry : Given) → HasFile f given → HasFile f (given ++ entry ∷ [])
 HasFile-push f given entry (more, e) =
     (more ++ entry ∷ [], ap (λ (xs : List Given). xs ++ entry ∷ []) e ∙ append_assoc (map from_file f.constraints) more (entry ∷ []))

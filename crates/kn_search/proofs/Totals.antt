@@ -72,7 +72,7 @@ one_of [] v e = absurd cc
 one_of (x ∷ lits) v e =
     elim (or_cases (eqb x.variable v) (names lits v) e) [
       | inl s ↦ by_sign (x ∷ lits) v x.positive
-        (or_left _ (has lits (record { variable = v; positive = x.positive })) (and_from _ _ (eq-eqb v x.variable (sym (eqb-true _ _ s))) (same_sign x.positive)))
+          (or_left _ (has lits (record { variable = v; positive = x.positive })) (and_from _ _ (eq-eqb v x.variable (sym (eqb-true _ _ s))) (same_sign x.positive)))
       | inr t ↦ elim (one_of lits v t) [
         | inl p ↦ inl (or_right (is_same (positive_of v) x) (has lits (positive_of v)) p)
         | inr n ↦ inr (or_right (is_same (negative_of v) x) (has lits (negative_of v)) n)

@@ -52,11 +52,15 @@ abbrev pub Judges : Problem → List Bool → Found → Type 0
 Judges f values (found.Model m) = Satisfies m f
 Judges f values (found.Conflict id) = IsViolated values f.constraints id
 
+-- the constraints of the formula are the first that are given
+abbrev pub HasFile : Problem → List Given → Type 0
+HasFile f given = (more : List Given) × (given ≡ map from_file f.constraints ++ more)
+
 -- what a search keeps: its trail follows, and the constraints of the formula are live under their ids
 pub record IsSearching (f : Problem) (s : ProofState) (t : Trailed) : Type 0 where
   pub state : s.vars ≡ f.vars
   pub vars : t.vars ≡ f.vars
-  pub file : (rest : List Given) × (s.given ≡ map from_file f.constraints ++ rest)
+  pub file : HasFile f s.given
   pub follows : Follows s.given [] t.entries
 
 -- where a search without a choice left stands

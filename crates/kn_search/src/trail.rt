@@ -119,8 +119,8 @@ impl Trail {
     pub fn back(&mut self)
         ensures { self.new ≡ record self.old { entries = before_decision self.old.entries } }
     {
-        while let Some(entry) = self.pop() {
-            if entry.reason.is_none() {
+        while let Some(last) = self.pop() {
+            if last.reason.is_none() {
                 return;
             }
         }
