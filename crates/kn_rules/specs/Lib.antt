@@ -1,4 +1,5 @@
 pub mod States
+pub mod Grids
 pub mod Steps
 pub mod Proofs
 pub mod Marks

@@ -1,5 +1,5 @@
 -- The state of a proof: what its lines so far have given.
-use Rattle.std.specs.Prelude.{ℕ, ◌≡◌, ◌-◌, ◌==◌, Bool, false, if◌then◌else◌, List, [], map, Option, Some, None, option_and_then, slice_get, IfSome}
+use Rattle.std.specs.Prelude.{ℕ, ◌≡◌, ◌-◌, ◌==◌, nat_lt, Bool, false, if◌then◌else◌, List, [], length, map, Option, Some, None, option_and_then, slice_get, IfSome}
 use Rattle.std.specs.List.{AllByRecursion}
 use Rattle.kn_logic.specs.Literals.{Literal}
 use Rattle.kn_logic.specs.Constraints.{Bounded, IsWithin}
@@ -32,6 +32,13 @@ from_file c = record { origin = File; live = Some c }
 -- the state behind the header
 abbrev pub start : Problem → ProofState
 start f = record { vars = f.vars; definitions = []; given = map from_file f.constraints; refuted = false }
+
+-- the definition of a variable; none where it is one of the file's, or not known
+abbrev pub defined_among : List Definition → ℕ → ℕ → Option Definition
+defined_among definitions base variable = if nat_lt base variable then slice_get definitions (variable - base - 1) else None
+
+abbrev pub definition_of : ProofState → ℕ → Option Definition
+definition_of s variable = defined_among s.definitions (s.vars - length s.definitions) variable
 
 -- what stands under an id; none where it was not given
 abbrev pub given_at : List Given → ℕ → Option Given
