@@ -1,11 +1,11 @@
-ghost use Rattle.std.specs.Prelude.{◌≡◌, ◌++◌, OnOk, IfOk};
+ghost use Rattle.std.specs.Prelude.{◌≡◌, ◌<◌, ◌^◌, ◌++◌, OnOk, IfOk};
 ghost use Rattle.kn_text.specs.Lines.{line_text};
 ghost use Rattle.kn_text.specs.Numbers.{literal_word, IsWritable};
 ghost use Rattle.kn_lines.specs.Lines.{AreLiterals, AreNumbers, IsArmInRange, IsInRange, IsWellFormed, arm_word, line_words};
 ghost use Rattle.kn_lines.specs.Writing.{spaced, literals_text, ids_text, header_text, definition_text, derived_text, pair_text, klause_text, unfolding_text, delete_text, content_text};
 
 use crate::{Arm, Line, NoMemory};
-use kn_logic::Lit;
+use kn_logic::{Constraint, Lit};
 use kn_text::{push_literal, push_number};
 use std::alloc::Global;
 
@@ -43,9 +43,7 @@ fn push_content(out: &mut Vec<u8>, line: &Line) -> Result<(), NoMemory>
         Line::Define { x, high, low } => push_definition(out, *x, high, low),
         Line::Lemma { clause, hints } => push_derived(out, b"r", clause.lits(), hints.ids()),
         Line::Learned { clause, hints } => push_derived(out, b"l", clause.lits(), hints.ids()),
-        Line::Klause { klause, root, unit } => {
-            push_klause(out, klause.bound(), klause.lits(), *root, *unit)
-        }
+        Line::Klause { klause, root, unit } => push_klause(out, klause, *root, *unit),
         Line::Unfold { klause, root } => push_unfolding(out, *klause, *root),
         Line::Delete { ids } => push_delete(out, ids.ids()),
     }
@@ -87,19 +85,14 @@ fn push_derived(
     push_ids(out, hints)
 }
 
-fn push_klause(
-    out: &mut Vec<u8>,
-    bound: u64,
-    lits: &[Lit],
-    root: u64,
-    unit: u64,
-) -> Result<(), NoMemory>
-    ensures text { OnOk result (out.new.items ≡ out.old.items ++ klause_text bound lits.now root unit) }
-    ensures literals { OnOk result (AreLiterals lits.now) }
+fn push_klause(out: &mut Vec<u8>, klause: &Constraint, root: u64, unit: u64) -> Result<(), NoMemory>
+    ensures text { OnOk result (out.new.items ≡ out.old.items ++ klause_text klause.now.bound klause.now.lits root unit) }
+    ensures bound { OnOk result (klause.now.bound < 2 ^ 64) }
+    ensures literals { OnOk result (AreLiterals klause.now.lits) }
 {
     out.extend_from_slice(b"k ")?;
-    push_number(out, bound)?;
-    push_literals(out, lits)?;
+    push_number(out, klause.bound())?;
+    push_literals(out, klause.lits())?;
     push_pair(out, root, unit)
 }
 
