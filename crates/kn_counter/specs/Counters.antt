@@ -1,6 +1,6 @@
 -- Sequential counters: clauses, and further variables, for "at most k of x1 to xn" (Sinz, CP 2005). The
 -- further variable s(i, j) is forced where at least j of x1 to xi are true.
-use Rattle.std.specs.Prelude.{ℕ, ◌≡◌, ◌≤◌, ◌<◌, ◌+◌, ◌-◌, ◌*◌, ◌==◌, nat_lt, ◌&&◌, Bool, true, false, if◌then◌else◌, List, [], ◌∷◌, ◌++◌, length, map, Option, Some, None, option_to_list, option_map}
+use Rattle.std.specs.Prelude.{ℕ, zero, suc, ◌≡◌, ◌≤◌, ◌<◌, ◌+◌, ◌-◌, ◌*◌, ◌==◌, nat_lt, ◌&&◌, Bool, true, false, if◌then◌else◌, List, [], ◌∷◌, ◌++◌, length, map, Option, Some, None, option_to_list, option_map}
 use Rattle.std.specs.List.{flat_map}
 use Rattle.kn_logic.specs.Literals.{Literal, negated}
 use Rattle.kn_logic.specs.Constraints.{Bounded, clause}
@@ -8,7 +8,7 @@ use Rattle.kn_logic.specs.Formulas.{Problem}
 
 -- the numbers from the first on, so many
 abbrev pub counting : ℕ → ℕ → List ℕ
-counting first 0 = []
+counting first zero = []
 counting first (suc count) = first ∷ counting (first + 1) count
 
 -- s(i, j) of a counter for at most k, whose further variables stand behind `base`

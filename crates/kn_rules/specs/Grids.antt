@@ -1,14 +1,14 @@
 -- Which variables stand for the nodes of a count's grid. Node (i, j) over l1 to ln says that at least j of li
 -- to ln are true; it is told here by the literals from the i-th on, and j.
-use Rattle.std.specs.Prelude.{ℕ, ◌≡◌, ◌-◌, ◌==◌, Bool, true, false, not, ◌&&◌, ◌||◌, if◌then◌else◌, List, [], ◌∷◌, length, Option, Some, None}
+use Rattle.std.specs.Prelude.{ℕ, ◌-◌, Bool, true, false, ◌&&◌, ◌||◌, if◌then◌else◌, List, [], ◌∷◌, length, Option, Some, None}
 use Rattle.std.specs.Option.{option_map_or}
 use Rattle.kn_logic.specs.Literals.{Literal, negated, is_same}
 use Rattle.kn_lines.specs.declared.line.Arm.{Arm}
 use Rattle.kn_lines.specs.declared.line.Arm.TheVariants as arm
+use Rattle.kn_rules.specs.declared.definition.Definition.{Definition}
 use Rattle.kn_counter.specs.Grids.{cell_of}
 use Rattle.kn_counter.specs.declared.grid.Cell.{Cell}
 use Rattle.kn_counter.specs.declared.grid.Cell.TheVariants as cell
-use Rattle.kn_rules.specs.States.{Definition}
 
 abbrev pub is_true_arm : Arm → Bool
 is_true_arm arm.True = true

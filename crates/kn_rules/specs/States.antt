@@ -1,19 +1,12 @@
 -- The state of a proof: what its lines so far have given.
-use Rattle.std.specs.Prelude.{ℕ, ◌≡◌, ◌-◌, ◌==◌, nat_lt, Bool, false, if◌then◌else◌, List, [], length, map, Option, Some, None, option_and_then, slice_get, IfSome}
+use Rattle.std.specs.Prelude.{ℕ, ◌≡◌, ◌≤◌, ◌+◌, ◌^◌, ◌-◌, ◌==◌, nat_lt, Bool, false, if◌then◌else◌, List, [], length, map, Option, Some, None, option_and_then, slice_get, IfSome}
 use Rattle.std.specs.List.{AllByRecursion}
-use Rattle.kn_logic.specs.Literals.{Literal}
 use Rattle.kn_logic.specs.Constraints.{Bounded, IsWithin}
 use Rattle.kn_logic.specs.Formulas.{Problem}
-use Rattle.kn_lines.specs.declared.line.Arm.{Arm}
 use Rattle.kn_rules.specs.Marks.{Assumed}
+use Rattle.kn_rules.specs.declared.definition.Definition.{Definition}
 use Rattle.kn_rules.specs.declared.given.Given.{Given}
 use Rattle.kn_rules.specs.declared.given.Origin.TheVariants.{File}
-
--- a defined variable: "if test then high else low"
-pub record Definition : Type 0 where
-  pub test : Literal
-  pub high : Arm
-  pub low : Arm
 
 -- An id stands for a `Given`: what gave it, and its constraint, or none where it is deleted.
 --
@@ -55,7 +48,10 @@ IsLiveWithin vars entry = IfSome entry.live (IsWithin vars)
 abbrev pub AreLiveWithin : ℕ → List Given → Type 0
 AreLiveWithin vars given = AllByRecursion (IsLiveWithin vars) given
 
--- what a checker keeps between two lines: its constraints are over its variables, and no hint is run
-pub record IsReady (vars : ℕ) (given : List Given) (assumed : Assumed) : Type 0 where
+-- What a checker keeps between two lines: its constraints are over its variables, no hint is run, and each
+-- variable behind those of the file, which are at most 2^32, has its definition.
+pub record IsReady (vars : ℕ) (definitions : List Definition) (given : List Given) (assumed : Assumed) : Type 0 where
   pub trail : assumed ≡ record { vars = vars; lits = [] }
   pub within : AreLiveWithin vars given
+  pub defined : length definitions ≤ vars
+  pub room : vars ≤ 2 ^ 32 + length definitions

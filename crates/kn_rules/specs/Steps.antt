@@ -20,7 +20,7 @@ use Rattle.kn_lines.specs.declared.line.Line.TheVariants.{Header, Define, Lemma,
 use Rattle.kn_rules.specs.declared.given.Origin.{Origin}
 use Rattle.kn_rules.specs.declared.given.Origin.TheVariants as origin
 use Rattle.kn_rules.specs.declared.given.Given.{Given}
-use Rattle.kn_rules.specs.States.{ProofState, Definition, definition_of, given_at, live_at}
+use Rattle.kn_rules.specs.States.{ProofState, definition_of, given_at, live_at}
 use Rattle.kn_rules.specs.Grids.{is_root}
 
 -- whether the variables of all literals are known
@@ -159,8 +159,8 @@ if_klause s root (Some c) =
     else Ok (with_one s origin.Unfolding (unit_of root))
 
 -- The root of a klause's grid is true where the klause holds.
-abbrev pub unfold : ProofState → ℕ → ℕ → Result ProofState ℕ
-unfold s id root = if is_known_variable s.vars root then if_klause s root (live_at s.given id) else Err 3
+abbrev pub unfold_klause : ProofState → ℕ → ℕ → Result ProofState ℕ
+unfold_klause s id root = if is_known_variable s.vars root then if_klause s root (live_at s.given id) else Err 3
 
 abbrev pub step : ProofState → Line → Result ProofState ℕ
 step s (Header vars constraints) = Err 1
@@ -168,5 +168,5 @@ step s (Define x high low) = define s x high low
 step s (Lemma c hints) = follow s origin.Lemma c.lits hints
 step s (Learned c hints) = follow s origin.Learned c.lits hints
 step s (Klause c root unit) = count s c.bound c.lits root unit
-step s (Unfold id root) = unfold s id root
+step s (Unfold id root) = unfold_klause s id root
 step s (Delete ids) = with_given s (deleted s.given ids)

@@ -1,4 +1,4 @@
-ghost use Rattle.std.specs.Prelude.{◌≡◌, ◌++◌, ◌∷◌, [], List, length, filter, IfOk, OnOk, OnErr};
+ghost use Rattle.std.specs.Prelude.{◌≡◌, ◌+◌, ◌++◌, ◌∷◌, [], List, length, filter, IfOk, OnOk, OnErr};
 ghost use Rattle.kn_logic.specs.Literals.{Literal, IsKnown, AreKnown, has};
 ghost use Rattle.kn_logic.specs.Propagation.{is_open};
 ghost use Rattle.kn_rules.specs.Marks.{IsMarked, is_marked, marked, is_unopposed};
@@ -95,6 +95,18 @@ impl Trail {
     {
         unmark_all(&mut self.marks, &self.lits);
         self.lits.clear();
+    }
+
+    /// One variable more, behind the others. Fails where memory is wanting, and nothing changes then.
+    pub fn grow(&mut self) -> Result<(), NoMemory>
+        ensures ok { OnOk result (self.new ≡ record self.old { vars = self.old.vars + 1 }) }
+        ensures err { OnErr result (self.new ≡ self.old) }
+    {
+        self.marks.push(Mark {
+            positive: false,
+            negative: false,
+        })?;
+        Ok(())
     }
 }
 

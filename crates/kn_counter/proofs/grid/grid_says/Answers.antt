@@ -1,0 +1,5 @@
+use Rattle.kn_counter.proofs.GridLemmas.{grid-says}
+use Rattle.kn_counter.proofs.grid.grid_says.Goals as goal
+
+pub returns : goal.returns
+returns c = grid-says
