@@ -1,9 +1,9 @@
 ghost use Rattle.std.specs.Prelude.{◌≡◌, [], true, false, Some, None, if◌then◌else◌, IfOk, IfSome, IfNone, IsErrOf};
 ghost use Rattle.kn_text.specs.Lines.{is_skipped, words_of};
 ghost use Rattle.kn_lines.specs.Lines.{SpellsLine, SpellsNone, IsWellFormed};
-ghost use Rattle.kn_lines.specs.Reading.{literals_behind, ids_behind, if_last, header_of, derived_of, delete_of, line_of};
+ghost use Rattle.kn_lines.specs.Reading.{literals_behind, ids_behind, if_last, header_of, arm_of, definition_of, derived_of, pair_of, klause_of, unfolding_of, delete_of, line_of};
 
-use crate::{Ids, Line, LineError, NoMemory};
+use crate::{Arm, Ids, Line, LineError, NoMemory};
 use kn_logic::{Constraint, Lit};
 use kn_text::{first_word, is_end, is_skipped, literal, number};
 use std::alloc::Global;
@@ -36,11 +36,20 @@ fn content(alloc: Global, bytes: &[u8]) -> Result<Option<Line>, NoMemory>
     if word == b"p".as_slice() {
         return Ok(header(rest));
     }
+    if word == b"d".as_slice() {
+        return Ok(definition(rest));
+    }
     if word == b"r".as_slice() {
         return derived(alloc, false, rest);
     }
     if word == b"l".as_slice() {
         return derived(alloc, true, rest);
+    }
+    if word == b"k".as_slice() {
+        return klause(alloc, rest);
+    }
+    if word == b"g".as_slice() {
+        return Ok(unfolding(rest));
     }
     if word == b"x".as_slice() {
         return delete(alloc, rest);
@@ -63,6 +72,35 @@ fn header(bytes: &[u8]) -> Option<Line>
     Some(Line::Header { vars, constraints })
 }
 
+// The definition of which these are the words behind the `d`.
+fn definition(bytes: &[u8]) -> Option<Line>
+    ensures { result ≡ definition_of (words_of bytes.now) }
+{
+    let (test, rest) = first_word(bytes)?;
+    let (first, rest) = first_word(rest)?;
+    let (second, rest) = first_word(rest)?;
+    if first_word(rest).is_some() {
+        return None;
+    }
+    let x = literal(test)?;
+    let high = arm(first)?;
+    let low = arm(second)?;
+    Some(Line::Define { x, high, low })
+}
+
+// The arm that the word spells.
+fn arm(word: &[u8]) -> Option<Arm>
+    ensures { result ≡ arm_of word.now }
+{
+    if word == b"T".as_slice() {
+        return Some(Arm::True);
+    }
+    if word == b"F".as_slice() {
+        return Some(Arm::False);
+    }
+    Some(Arm::Lit(literal(word)?))
+}
+
 // The lemma, or the learned clause, of which these are the words behind the first.
 fn derived(alloc: Global, learned: bool, bytes: &[u8]) -> Result<Option<Line>, NoMemory>
     ensures { IfOk result (λ read. read ≡ derived_of learned (words_of bytes.now)) }
@@ -80,6 +118,52 @@ fn derived(alloc: Global, learned: bool, bytes: &[u8]) -> Result<Option<Line>, N
     } else {
         Ok(Some(Line::Lemma { clause, hints }))
     }
+}
+
+// The klause of which these are the words behind the `k`.
+fn klause(alloc: Global, bytes: &[u8]) -> Result<Option<Line>, NoMemory>
+    ensures { IfOk result (λ read. read ≡ klause_of (words_of bytes.now)) }
+{
+    let Some((word, rest)) = first_word(bytes) else {
+        return Ok(None);
+    };
+    let Some(bound) = number(word) else {
+        return Ok(None);
+    };
+    let mut lits = Vec::new(alloc);
+    let Some(rest) = literals(&mut lits, rest)? else {
+        return Ok(None);
+    };
+    let Some((root, unit)) = pair(rest) else {
+        return Ok(None);
+    };
+    let klause = Constraint::new(bound, lits);
+    Ok(Some(Line::Klause { klause, root, unit }))
+}
+
+// The unfolding of which these are the words behind the `g`.
+fn unfolding(bytes: &[u8]) -> Option<Line>
+    ensures { result ≡ unfolding_of (words_of bytes.now) }
+{
+    let (klause, root) = pair(bytes)?;
+    Some(Line::Unfold { klause, root })
+}
+
+// Two numbers of at least 1, if these are the only words.
+fn pair(bytes: &[u8]) -> Option<(u64, u64)>
+    ensures { result ≡ pair_of (words_of bytes.now) }
+{
+    let (first, rest) = first_word(bytes)?;
+    let (second, rest) = first_word(rest)?;
+    if first_word(rest).is_some() {
+        return None;
+    }
+    let a = number(first)?;
+    let b = number(second)?;
+    if a == 0 || b == 0 {
+        return None;
+    }
+    Some((a, b))
 }
 
 // The deletion of which these are the words behind the first.

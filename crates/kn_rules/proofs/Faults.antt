@@ -1,7 +1,7 @@
 -- A text is a proof or has one first fault, and not both: a line of a text spells one line of a proof,
 -- and that steps to one state, or has one cause.
-use Rattle.std.proofs.Common.{◌≡◌, ℕ, ◌+◌, true, List, [], ◌∷◌, length, Result, Ok, Err, sym, ap, ◌∙◌, subst, inl, inr}
-use Rattle.kn_logic.specs.Formulas.{Problem, IsUnsatisfiable}
+use Rattle.std.proofs.Common.{◌≡◌, ℕ, ◌+◌, true, List, [], ◌∷◌, length, Result, Ok, Err, IfOk, sym, ap, ◌∙◌, subst, inl, inr}
+use Rattle.kn_logic.specs.Formulas.{Problem, IsFormula, IsUnsatisfiable}
 use Rattle.kn_text.specs.Lines.{Line as TextLine, content_from, content_of, lines_of, words_of}
 use Rattle.kn_lines.specs.Lines.{SpellsWords}
 use Rattle.kn_lines.specs.declared.line.Line.{Line}
@@ -114,9 +114,21 @@ turn-wrong number line lines all old new first texts count found h e k w =
     k (subst (λ ls. WrongFrom old (content_from number ls) count found) (sym e) (h.wrong number (content_from (number + 1) lines) count found w))
 
 -- what the answer claims of a text
-pub sound-answer : (f : Problem) (bytes : List ℕ) (checked : Checked) → IfVerified checked (IsProof f bytes) → IfVerified checked (IsUnsatisfiable f)
-sound-answer f bytes Verified h = proof-refutes f bytes h
-sound-answer f bytes (NotVerified line why) h = tt
+sound-answer : (f : Problem) (bytes : List ℕ) (checked : Checked) → IfVerified checked (IsFormula f) → IfVerified checked (IsProof f bytes) → IfVerified checked (IsUnsatisfiable f)
+sound-answer f bytes Verified w h = proof-refutes f bytes w h
+sound-answer f bytes (NotVerified line why) w h = tt
+
+pub sound-result : {E : Type 0} (f : Problem) (bytes : List ℕ) (result : Result Checked E) → IfOk result (λ checked. IfVerified checked (IsFormula f)) → IfOk result (λ checked. IfVerified checked (IsProof f bytes)) → IfOk result (λ checked. IfVerified checked (IsUnsatisfiable f))
+sound-result f bytes (Ok checked) w h = sound-answer f bytes checked w h
+sound-result f bytes (Err e) w h = tt
+
+if_verified : (claim : Type 0) (checked : Checked) → claim → IfVerified checked claim
+if_verified claim Verified h = h
+if_verified claim (NotVerified line why) h = tt
+
+pub ok-if_verified : {E : Type 0} (claim : Type 0) (result : Result Checked E) → claim → IfOk result (λ checked. IfVerified checked claim)
+ok-if_verified claim (Ok checked) h = if_verified claim checked h
+ok-if_verified claim (Err e) h = tt
 
 pub refused-answer : (f : Problem) (bytes : List ℕ) (checked : Checked) → IfFault checked (IsFirstWrong f bytes) → IfFault checked (λ _. IsProof f bytes → ⊥)
 refused-answer f bytes Verified h = tt

@@ -1,7 +1,13 @@
 pub mod Elements
 pub mod Truth
 pub mod Deleting
-pub mod Sound
 pub mod MarkLemmas
+pub mod Nodes
+pub mod DemandLemmas
+pub mod Different
+pub mod Extending
+pub mod Defining
+pub mod Units
 pub mod Ready
+pub mod Sound
 pub mod Faults

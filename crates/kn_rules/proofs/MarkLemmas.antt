@@ -1,9 +1,10 @@
 -- The table of a list of literals: what it says, and what marking and unmarking make of it.
-use Rattle.std.proofs.Common.{◌≡◌, ◌≢◌, ℕ, ◌+◌, ◌-◌, ◌<◌, ◌++◌, ◌==◌, ◌&&◌, ◌||◌, Bool, true, false, not, cond, eqb, List, [], ◌∷◌, length, take, get_or, set, replicate, append_assoc, refl, sym, ap, ◌∙◌, subst, inl, inr, arith}
+use Rattle.std.proofs.Common.{◌≡◌, ◌≢◌, ℕ, ◌+◌, ◌-◌, ◌<◌, ◌++◌, ◌==◌, ◌&&◌, ◌||◌, Bool, true, false, not, cond, eqb, List, [], ◌∷◌, length, length-append, take, get_or, set, replicate, append_assoc, refl, sym, ap, ◌∙◌, subst, inl, inr, arith}
 use Rattle.std.specs.List.{filter}
 use Rattle.std.proofs.lemmas.Bool.{or_parts, eqb-false, eq-eqb, ne_eqb, cases_eq}
 use Rattle.std.proofs.lemmas.List.Elements.{All-from_recursion}
-use Rattle.std.proofs.lemmas.List.{take_more, get_or-replicate, length-replicate, length-set, get_or-set_same, get_or-set_other}
+use Rattle.std.proofs.Math.Seq.{get_or-append_seam}
+use Rattle.std.proofs.lemmas.List.{get_or_append_left, take_more, get_or-replicate, length-replicate, length-set, get_or-set_same, get_or-set_other}
 use Rattle.kn_logic.specs.Literals.{Literal, negated, is_same, has, names, IsKnown, AreKnown}
 use Rattle.kn_logic.specs.Propagation.{is_open}
 use Rattle.kn_rules.specs.Marks.{unmarked, mark_of, IsMarked, entry_of, is_marked, with_literal, marked, is_unopposed}
@@ -175,3 +176,33 @@ pop-marked marks front l m alone =
       known = rw len (known-front _ front (l ∷ []) m.known);
       exact = λ k h. pop_at marks front l m alone k (rw len at h);
     }
+
+-- one variable more
+not-known : (vars : ℕ) (lits : List Literal) → AreKnown vars lits → names lits (vars + 1) ≡ false
+not-known vars [] k = refl
+not-known vars (l ∷ lits) k =
+    let differs : eqb l.variable (vars + 1) ≡ false = ne_eqb _ _ (λ e. absurd (omega (arith, e, k.0.1))) in
+    rw differs (not-known vars lits k.1)
+
+pub marked-grown : (marks : List Mark) (lits : List Literal) → IsMarked marks lits → IsMarked (marks ++ unmarked ∷ []) lits
+marked-grown marks lits m =
+    let len : length (marks ++ unmarked ∷ []) ≡ length marks + 1 = length-append marks (unmarked ∷ []) in
+    record {
+      known = rw len (are_known-grown (length marks) lits m.known);
+      exact = λ k h. elim (cases_eq k (length marks)) [
+        | inl last ↦ (
+            let n = not-known (length marks) lits m.known in
+            let p = unnamed lits (record { variable = length marks + 1; positive = true }) n in
+            let q = unnamed lits (record { variable = length marks + 1; positive = false }) n in
+            rw last (get_or-append_seam marks unmarked [] unmarked ∙ same_mark _ _ _ _ (sym p) (sym q))
+            )
+        | inr other ↦ (
+            let before : k < length marks = omega (arith, h, len, other) in
+            get_or_append_left marks (unmarked ∷ []) unmarked k before ∙ m.exact k before
+            )
+      ];
+    }
+  where
+    are_known-grown : (vars : ℕ) (lits : List Literal) → AreKnown vars lits → AreKnown (vars + 1) lits
+    are_known-grown vars [] k = tt
+    are_known-grown vars (l ∷ lits) k = ((k.0.0, omega (arith, k.0.1)), are_known-grown vars lits k.1)

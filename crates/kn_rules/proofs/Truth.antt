@@ -35,7 +35,7 @@ alike true q e = sym e
 alike false true e = e
 alike false false e = refl
 
-true-same : (values : List Bool) (a b : Literal) → is_same a b ≡ true → is_true values a ≡ is_true values b
+pub true-same : (values : List Bool) (a b : Literal) → is_same a b ≡ true → is_true values a ≡ is_true values b
 true-same values a b e =
     let parts = and_parts (eqb a.variable b.variable) (cond a.positive b.positive (not b.positive)) e in
     let variable : a.variable ≡ b.variable = eqb-true _ _ parts.0 in

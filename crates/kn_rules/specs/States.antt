@@ -1,19 +1,12 @@
 -- The state of a proof: what its lines so far have given.
-use Rattle.std.specs.Prelude.{ℕ, ◌≡◌, ◌-◌, ◌==◌, Bool, false, if◌then◌else◌, List, [], map, Option, Some, None, option_and_then, slice_get, IfSome}
+use Rattle.std.specs.Prelude.{ℕ, ◌≡◌, ◌≤◌, ◌+◌, ◌^◌, ◌-◌, ◌==◌, nat_lt, Bool, false, if◌then◌else◌, List, [], length, map, Option, Some, None, option_and_then, slice_get, IfSome}
 use Rattle.std.specs.List.{AllByRecursion}
-use Rattle.kn_logic.specs.Literals.{Literal}
 use Rattle.kn_logic.specs.Constraints.{Bounded, IsWithin}
 use Rattle.kn_logic.specs.Formulas.{Problem}
-use Rattle.kn_lines.specs.declared.line.Arm.{Arm}
 use Rattle.kn_rules.specs.Marks.{Assumed}
+use Rattle.kn_rules.specs.declared.definition.Definition.{Definition}
 use Rattle.kn_rules.specs.declared.given.Given.{Given}
 use Rattle.kn_rules.specs.declared.given.Origin.TheVariants.{File}
-
--- a defined variable: "if test then high else low"
-pub record Definition : Type 0 where
-  pub test : Literal
-  pub high : Arm
-  pub low : Arm
 
 -- An id stands for a `Given`: what gave it, and its constraint, or none where it is deleted.
 --
@@ -33,6 +26,13 @@ from_file c = record { origin = File; live = Some c }
 abbrev pub start : Problem → ProofState
 start f = record { vars = f.vars; definitions = []; given = map from_file f.constraints; refuted = false }
 
+-- the definition of a variable; none where it is one of the file's, or not known
+abbrev pub defined_among : List Definition → ℕ → ℕ → Option Definition
+defined_among definitions base variable = if nat_lt base variable then slice_get definitions (variable - base - 1) else None
+
+abbrev pub definition_of : ProofState → ℕ → Option Definition
+definition_of s variable = defined_among s.definitions (s.vars - length s.definitions) variable
+
 -- what stands under an id; none where it was not given
 abbrev pub given_at : List Given → ℕ → Option Given
 given_at given id = if id == 0 then None else slice_get given (id - 1)
@@ -48,7 +48,10 @@ IsLiveWithin vars entry = IfSome entry.live (IsWithin vars)
 abbrev pub AreLiveWithin : ℕ → List Given → Type 0
 AreLiveWithin vars given = AllByRecursion (IsLiveWithin vars) given
 
--- what a checker keeps between two lines: its constraints are over its variables, and no hint is run
-pub record IsReady (vars : ℕ) (given : List Given) (assumed : Assumed) : Type 0 where
+-- What a checker keeps between two lines: its constraints are over its variables, no hint is run, and each
+-- variable behind those of the file, which are at most 2^32, has its definition.
+pub record IsReady (vars : ℕ) (definitions : List Definition) (given : List Given) (assumed : Assumed) : Type 0 where
   pub trail : assumed ≡ record { vars = vars; lits = [] }
   pub within : AreLiveWithin vars given
+  pub defined : length definitions ≤ vars
+  pub room : vars ≤ 2 ^ 32 + length definitions

@@ -1,17 +1,21 @@
 ghost use Rattle.std.specs.Prelude.{◌≡◌, ◌≤◌, ◌+◌, ◌^◌, length, map, Ok, Err, IfOk, IfSome, IsOk, OnOk, OnErr, option_copied, if◌then◌else◌};
-ghost use Rattle.kn_logic.specs.Constraints.{clause, IsWithin};
+ghost use Rattle.kn_logic.specs.Constraints.{clause, klause, IsWithin};
 ghost use Rattle.kn_lines.specs.Lines.{IsWellFormed};
-ghost use Rattle.kn_rules.specs.States.{start, from_file, live_at};
-ghost use Rattle.kn_rules.specs.Steps.{are_known, follow, deleted, with_given, step};
+ghost use Rattle.kn_rules.specs.States.{start, from_file, definition_of, live_at};
+ghost use Rattle.kn_rules.specs.Grids.{is_root};
+ghost use Rattle.kn_rules.specs.Steps.{follow, deleted, with_given, with_one, define, count, unfold_klause, step};
 ghost use Rattle.kn_rules.specs.Feeding.{Feeds};
 ghost use Rattle.kn_rules.specs.declared.checker.FeedError.TheVariants.{Memory};
 
+use crate::clauses::{constraint_of, definition_given, is_unit};
 use crate::deletion::{discard, put_back, take_out};
+use crate::grid::is_root;
 use crate::hints::follows;
 use crate::ids::{are_live, live};
+use crate::known::{are_different, are_known, is_known, is_known_arm};
 use crate::trail::Trail;
-use crate::{Given, Origin};
-use kn_lines::Line;
+use crate::{Definition, Given, Origin};
+use kn_lines::{Arm, Line};
 use kn_logic::{Constraint, Formula, Lit, NoMemory};
 use std::alloc::{AllocError, AllocFailed, Global};
 use std::marker::Model;
@@ -20,7 +24,8 @@ use std::marker::Model;
 #[derive(Clone, Copy, Debug, PartialEq, Eq)]
 pub enum FeedError {
     /// The line does not step: 1 a header behind the first line, 3 an unknown variable, 4 an id that is
-    /// not live, 5 hints without a conflict.
+    /// not live, 5 hints without a conflict, 6 a unit clause that is not the root's, 7 a root that does not
+    /// stand for the grid, 8 a klause that names a variable twice or, where it is unfolded, has a guard.
     Wrong(u8),
     /// Want of memory.
     Memory,
@@ -43,24 +48,24 @@ impl<T: Drop> From<AllocFailed<T>> for FeedError {
 }
 
 /// A checker of a proof, one line after another, behind the header. A line costs as much as itself and
-/// the constraints of its hints.
+/// the constraints of its hints; a root also costs what its grid has of nodes.
 #[derive(Debug, Drop)]
 pub struct Checker {
     vars: u64,
+    definitions: Vec<Definition>,
     given: Vec<Given>,
     refuted: bool,
     trail: Trail,
 }
 
 impl Model for Checker {
-    ghost use Rattle.std.specs.Prelude.{◌≡◌, []};
     ghost use Rattle.kn_rules.specs.States.{ProofState, IsReady};
 
     ghost Value = { ProofState };
 
-    ghost view = { λ c. record { vars = c.vars; definitions = []; given = c.given.items; refuted = c.refuted } };
+    ghost view = { λ c. record { vars = c.vars; definitions = c.definitions.items; given = c.given.items; refuted = c.refuted } };
 
-    ghost invariant = { λ c. IsReady c.vars c.given.items c.trail };
+    ghost invariant = { λ c. IsReady c.vars c.definitions.items c.given.items c.trail };
 }
 
 impl Checker {
@@ -72,6 +77,7 @@ impl Checker {
         let vars = f.vars();
         Ok(Checker {
             vars,
+            definitions: Vec::new(alloc),
             given: file_given(alloc, f.constraints())?,
             refuted: false,
             trail: Trail::new(alloc, vars)?,
@@ -86,12 +92,15 @@ impl Checker {
     {
         match line {
             Line::Header { .. } => Err(FeedError::Wrong(1)),
+            Line::Define { x, high, low } => self.define(*x, *high, *low),
             Line::Lemma { clause, hints } => self.follow(Origin::Lemma, clause.lits(), hints.ids()),
             Line::Learned { clause, hints } => self.follow(
                 Origin::Learned,
                 clause.lits(),
                 hints.ids(),
             ),
+            Line::Klause { klause, root, unit } => self.count(klause, *root, *unit),
+            Line::Unfold { klause, root } => self.unfold(*klause, *root),
             Line::Delete { ids } => self.delete(ids.ids()),
         }
     }
@@ -106,8 +115,11 @@ impl Checker {
     {
         match line {
             Line::Header { .. } => unreachable!(),
+            Line::Define { x, high, low } => self.keep_definition(x, high, low),
             Line::Lemma { clause, hints } => self.keep(Origin::Lemma, clause, hints.ids()),
             Line::Learned { clause, hints } => self.keep(Origin::Learned, clause, hints.ids()),
+            Line::Klause { klause, root, unit } => self.keep_klause(klause, root, unit),
+            Line::Unfold { klause, root } => self.keep_root(klause, root),
             Line::Delete { ids } => {
                 self.discard(ids.ids());
                 Ok(())
@@ -171,7 +183,7 @@ impl Checker {
         if !follows(&mut self.trail, &self.given, lits, hints)? {
             return Err(FeedError::Wrong(5));
         }
-        let clause = clause_of(*self.given.allocator(), lits)?;
+        let clause = constraint_of(*self.given.allocator(), 1, lits)?;
         self.given.push(Given {
             origin,
             live: Some(clause),
@@ -194,6 +206,129 @@ impl Checker {
         })?;
         self.refuted = self.refuted | refutes;
         Ok(())
+    }
+
+    fn define(&mut self, x: Lit, high: Arm, low: Arm) -> Result<(), FeedError>
+        ensures { Feeds result (define self.old x high low) self.old self.new }
+    {
+        if !is_known(self.vars, x.var())
+            || !is_known_arm(self.vars, &high)
+            || !is_known_arm(self.vars, &low)
+        {
+            return Err(FeedError::Wrong(3));
+        }
+        self.keep_definition(x, high, low)?;
+        Ok(())
+    }
+
+    /// Gives the next variable this definition, whose variables are known, and the next four ids to what
+    /// the definition says.
+    fn keep_definition(&mut self, x: Lit, high: Arm, low: Arm) -> Result<(), NoMemory>
+        requires { IsOk (define self.old x high low) }
+        ensures ok { OnOk result (define self.old x high low ≡ Ok self.new) }
+        ensures err { OnErr result (self.new ≡ self.old) }
+    {
+        let d = Definition { test: x, high, low };
+        let variable = Lit::new(self.vars + 1, true);
+        let mut given = definition_given(*self.given.allocator(), variable, &d)?;
+        self.definitions.reserve(1)?;
+        self.given.reserve(given.len())?;
+        self.trail.grow()?;
+        let Ok(()) = self.definitions.push(d) else {
+            unreachable!()
+        };
+        let Ok(()) = self.given.append(&mut given) else {
+            unreachable!()
+        };
+        self.vars += 1;
+        Ok(())
+    }
+
+    fn count(&mut self, c: &Constraint, root: u64, unit: u64) -> Result<(), FeedError>
+        requires { c.now ≡ klause c.now.bound c.now.lits }
+        ensures { Feeds result (count self.old c.now.bound c.now.lits root unit) self.old self.new }
+    {
+        if !are_known(self.vars, c.lits()) || !is_known(self.vars, root) {
+            return Err(FeedError::Wrong(3));
+        }
+        let Some(unit) = live(&self.given, unit) else {
+            return Err(FeedError::Wrong(4))
+        };
+        let alloc = *self.given.allocator();
+        if !are_different(alloc, c.lits())? {
+            return Err(FeedError::Wrong(8));
+        }
+        if !self.is_root(c.lits(), c.bound(), root)? {
+            return Err(FeedError::Wrong(7));
+        }
+        if !is_unit(unit, root) {
+            return Err(FeedError::Wrong(6));
+        }
+        self.give(Origin::Klause, c.copy()?)?;
+        Ok(())
+    }
+
+    /// Gives the next id to a klause that its grid's root is known to say.
+    fn keep_klause(&mut self, c: Constraint, root: u64, unit: u64) -> Result<(), NoMemory>
+        requires formed { c ≡ klause c.bound c.lits }
+        requires steps { IsOk (count self.old c.bound c.lits root unit) }
+        ensures ok { OnOk result (count self.old c.bound c.lits root unit ≡ Ok self.new) }
+        ensures err { OnErr result (self.new ≡ self.old) }
+    {
+        self.give(Origin::Klause, c)
+    }
+
+    fn unfold(&mut self, id: u64, root: u64) -> Result<(), FeedError>
+        ensures { Feeds result (unfold_klause self.old id root) self.old self.new }
+    {
+        if !is_known(self.vars, root) {
+            return Err(FeedError::Wrong(3));
+        }
+        let Some(klause) = live(&self.given, id) else {
+            return Err(FeedError::Wrong(4))
+        };
+        let alloc = *self.given.allocator();
+        if klause.guard().is_some() || !are_different(alloc, klause.lits())? {
+            return Err(FeedError::Wrong(8));
+        }
+        if !self.is_root(klause.lits(), klause.bound(), root)? {
+            return Err(FeedError::Wrong(7));
+        }
+        self.keep_root(id, root)?;
+        Ok(())
+    }
+
+    /// Gives the next id to the clause of a root, which a klause is known to say.
+    fn keep_root(&mut self, id: u64, root: u64) -> Result<(), NoMemory>
+        requires { IsOk (unfold_klause self.old id root) }
+        ensures ok { OnOk result (unfold_klause self.old id root ≡ Ok self.new) }
+        ensures err { OnErr result (self.new ≡ self.old) }
+    {
+        let lit = Lit::new(root, true);
+        let clause = constraint_of(*self.given.allocator(), 1, &[lit])?;
+        self.give(Origin::Unfolding, clause)
+    }
+
+    /// Gives the next id to a constraint over known variables.
+    fn give(&mut self, origin: Origin, c: Constraint) -> Result<(), NoMemory>
+        requires { IsWithin self.old.vars c }
+        ensures ok { OnOk result (self.new ≡ with_one self.old origin c) }
+        ensures err { OnErr result (self.new ≡ self.old) }
+    {
+        self.given.push(Given {
+            origin,
+            live: Some(c),
+        })?;
+        Ok(())
+    }
+
+    /// Whether a variable stands for the root of the grid of "at least `bound` of these literals".
+    fn is_root(&self, lits: &[Lit], bound: u64, root: u64) -> Result<bool, NoMemory>
+        ensures { IfOk result (λ yes. yes ≡ is_root (definition_of self.now) lits.now bound root) }
+    {
+        let base = self.vars - self.definitions.len() as u64;
+        let alloc = *self.given.allocator();
+        is_root(alloc, &self.definitions, base, lits, bound, root)
     }
 
     /// Deletes ids, each of which is live when its turn comes.
@@ -227,21 +362,4 @@ fn file_given(alloc: Global, constraints: &[Constraint]) -> Result<Vec<Given>, N
         })?;
     }
     Ok(given)
-}
-
-fn clause_of(alloc: Global, lits: &[Lit]) -> Result<Constraint, NoMemory>
-    ensures { IfOk result (λ c. c ≡ clause lits.now) }
-{
-    Ok(Constraint::new(1, Vec::from_slice(alloc, lits)?))
-}
-
-fn are_known(vars: u64, lits: &[Lit]) -> bool
-    ensures { result ≡ are_known vars lits.now }
-{
-    for lit in lits {
-        if lit.var() > vars {
-            return false;
-        }
-    }
-    true
 }

@@ -5,10 +5,16 @@ use kn_logic::Constraint;
 pub enum Origin {
     /// A constraint of the file.
     File,
+    /// A definition, which gives four.
+    Definition,
     /// A lemma.
     Lemma,
     /// A learned clause.
     Learned,
+    /// A klause that a grid stands for.
+    Klause,
+    /// A klause that was unfolded.
+    Unfolding,
 }
 
 /// What an id stands for.

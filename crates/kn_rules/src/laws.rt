@@ -1,10 +1,11 @@
 ghost use Rattle.std.specs.Prelude.{◌≡◌, ℕ, List};
-ghost use Rattle.kn_logic.specs.Formulas.{Problem, IsUnsatisfiable};
+ghost use Rattle.kn_logic.specs.Formulas.{Problem, IsFormula, IsUnsatisfiable};
 ghost use Rattle.kn_rules.specs.Proofs.{IsProof, Fault, IsFirstWrong};
 
-/// A law over the definitions, and no code: a formula that has a proof has no model.
+/// A law over the definitions, and no code: a formula that has a proof has no model. Its constraints are
+/// over its own variables, as those of each `Formula` are: the numbers behind them are for defined ones.
 pub fn proof_refutes()
-    ensures { (f : Problem) (bytes : List ℕ) → IsProof f bytes → IsUnsatisfiable f }
+    ensures { (f : Problem) (bytes : List ℕ) → IsFormula f → IsProof f bytes → IsUnsatisfiable f }
 {}
 
 /// A law over the definitions, and no code: no text is a proof and has a first fault, and none has two.

@@ -7,15 +7,21 @@
 #![tactic(auto)]
 
 mod checker;
+mod clauses;
+mod definition;
 mod deletion;
+mod demands;
 mod given;
+mod grid;
 mod hints;
 mod ids;
+mod known;
 mod laws;
 mod trail;
 mod whole;
 
 pub use checker::{Checker, FeedError};
+pub use definition::Definition;
 pub use given::{Given, Origin};
 pub use laws::{never_both, proof_refutes};
 pub use trail::Trail;

@@ -1,4 +1,4 @@
-ghost use Rattle.std.specs.Prelude.{◌≡◌, ◌-◌, ◌++◌, ◌∷◌, [], List, length, filter, slice_set, IfOk, OnOk, OnErr, MatchOption};
+ghost use Rattle.std.specs.Prelude.{◌≡◌, ◌+◌, ◌-◌, ◌++◌, ◌∷◌, [], List, length, filter, slice_set, IfOk, OnOk, OnErr, MatchOption};
 ghost use Rattle.kn_logic.specs.Literals.{Literal, IsKnown, AreKnown, has};
 ghost use Rattle.kn_logic.specs.Propagation.{is_open, open_places};
 ghost use Rattle.kn_rules.specs.Marks.{IsMarked, IsLastAlone, unmarked, is_marked, marked, is_unopposed};
@@ -128,6 +128,18 @@ impl Trail {
     {
         unmark_all(&mut self.marks, &self.lits);
         self.lits.clear();
+    }
+
+    /// One variable more, behind the others. Fails where memory is wanting, and nothing changes then.
+    pub fn grow(&mut self) -> Result<(), NoMemory>
+        ensures ok { OnOk result (self.new ≡ record self.old { vars = self.old.vars + 1 }) }
+        ensures err { OnErr result (self.new ≡ self.old) }
+    {
+        self.marks.push(Mark {
+            positive: false,
+            negative: false,
+        })?;
+        Ok(())
     }
 }
 

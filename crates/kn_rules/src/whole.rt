@@ -1,5 +1,5 @@
 ghost use Rattle.std.specs.Prelude.{◌≡◌, ◌≤◌, ◌<◌, ◌+◌, ◌^◌, ◌↔◌, IfOk, IsTrue, length};
-ghost use Rattle.kn_logic.specs.Formulas.{IsUnsatisfiable};
+ghost use Rattle.kn_logic.specs.Formulas.{IsFormula, IsUnsatisfiable};
 ghost use Rattle.kn_text.specs.Lines.{lines_of, words_of, content_from};
 ghost use Rattle.kn_lines.specs.Lines.{SpellsLine};
 ghost use Rattle.kn_lines.specs.declared.line.Line.TheVariants.{Header};
@@ -19,7 +19,8 @@ pub enum Checked {
     Verified,
     /// The first line that does not step, counted from 1, and the cause: 1 it is not where and what the
     /// header is to be, 2 it is no line of a proof, 3 an unknown variable, 4 an id that is not live,
-    /// 5 hints without a conflict. Cause 9 is told with the number of lines: all lines step, and none
+    /// 5 hints without a conflict, 6 a unit clause that is not the root's, 7 a root that does not stand for
+    /// the grid, 8 a klause that names a variable twice or, where it is unfolded, has a guard. Cause 9 is told with the number of lines: all lines step, and none
     /// gave the clause without literals.
     NotVerified { line: u64, why: u8 },
 }
@@ -38,6 +39,7 @@ pub fn check(alloc: Global, f: &Formula, bytes: &[u8]) -> Result<Checked, NoMemo
 fn answer(alloc: Global, f: &Formula, bytes: &[u8]) -> Result<Checked, NoMemory>
     requires { f.now.vars ≤ 2 ^ 32 }
     ensures verified { IfOk result (λ checked. IfVerified checked (IsProof f.now bytes.now)) }
+    ensures formula { IfOk result (λ checked. IfVerified checked (IsFormula f.now)) }
     ensures wrong { IfOk result (λ checked. IfFault checked (IsFirstWrong f.now bytes.now)) }
 {
     let (passed, rest) = pass_skipped(bytes);
@@ -78,11 +80,13 @@ fn pass_skipped(text: &[u8]) -> (u64, &[u8])
 
 /// Whether the line is the header of a proof for the formula.
 fn is_header(alloc: Global, f: &Formula, line: &[u8]) -> Result<bool, NoMemory>
-    ensures { IfOk result (λ yes. IsTrue yes ↔ SpellsLine line.now (Header f.now.vars (length f.now.constraints))) }
+    ensures header { IfOk result (λ yes. IsTrue yes ↔ SpellsLine line.now (Header f.now.vars (length f.now.constraints))) }
+    ensures formula { IsFormula f.now }
 {
+    let count = f.len() as u64;
     match read_line(alloc, line) {
         Ok(Some(Line::Header { vars, constraints })) => {
-            Ok(vars == f.vars() && constraints == f.len() as u64)
+            Ok(vars == f.vars() && constraints == count)
         }
         Ok(_) => Ok(false),
         Err(LineError::Bad) => Ok(false),

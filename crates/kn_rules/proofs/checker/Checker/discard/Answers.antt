@@ -10,5 +10,7 @@ invariant_of-self c =
     let stepped : deleted c.self.inside.given.items c.args.ids.now ≡ Ok c.discard.new.given = search rules in
     record {
       trail = c.self.invariant.trail;
+      defined = c.self.invariant.defined;
+      room = c.self.invariant.room;
       within = subst (AllLive (IsWithin c.self.inside.vars)) (sym (written _ _ _ len)) (deleted-still (IsWithin c.self.inside.vars) c.args.ids.now _ _ c.self.invariant.within stepped);
     }

@@ -15,5 +15,7 @@ invariant_of-self-2 c =
     let known : are_known c.self.inside.vars c.args.lits.now ≡ true = search rules in
     record {
       trail = c.in_ok-follows.ensures.same ∙ c.self.invariant.trail;
+      defined = c.self.invariant.defined;
+      room = c.self.invariant.room;
       within = rw (c.in_ok-push.ensures.items, c.in_ok-clause.ensures) (clause-within _ _ c.args.origin _ c.self.invariant.within (known-test _ _ known));
     }

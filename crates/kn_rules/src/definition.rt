@@ -1,0 +1,13 @@
+use kn_lines::Arm;
+use kn_logic::Lit;
+
+/// What defines a variable: "if test then high else low".
+#[derive(Clone, Copy, Debug, PartialEq, Eq)]
+pub struct Definition {
+    /// What decides between the arms; its variable is one that was known before.
+    pub test: Lit,
+    /// The value where the test is true.
+    pub high: Arm,
+    /// The value where the test is false.
+    pub low: Arm,
+}
