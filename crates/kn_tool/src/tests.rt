@@ -52,7 +52,7 @@ fn run_into(
     for word in words {
         list.push(Vec::from_slice(alloc, word.as_bytes())?)?;
     }
-    let mut out = MemSink::new(alloc, 200, 7, Vec::new(alloc))?;
+    let mut out = MemSink::new(alloc, 40_000, 7, Vec::new(alloc))?;
     let answer = run(
         alloc,
         &list,
@@ -142,6 +142,36 @@ fn check_tells_the_first_wrong_line(rt: HostRuntime) -> Result<(), Fail> {
         ),
         ("p cnf 2 1\n0\n", "p kpf 2 1\nr 0 1 0\n", "s VERIFIED\n"),
         (
+            PAIRS,
+            "p kpf 3 6\nd 3 F T\nd 2 F 4\nd 2 4 T\nd 1 5 6\nr -1 7 0 1 2 10 14 21 0\nr 7 0 23 22 18 17 3 10 0\nk 2 -1 -2 -3 0 7 24\nr 1 0 4 5 25 0\nr 0 26 25 6 0\n",
+            "s VERIFIED\n",
+        ),
+        (
+            PAIRS,
+            "p kpf 3 6\nd 3 F T\nd 2 F 4\nd 2 4 T\nd 1 5 6\nr -1 7 0 1 2 10 14 21 0\nr 7 0 23 22 18 17 3 10 0\nk 3 -1 -2 -3 0 7 24\nr 1 0 4 5 25 0\nr 0 26 25 6 0\n",
+            "c line 8 cause 7\ns NOT VERIFIED\n",
+        ),
+        (
+            PAIRS,
+            "p kpf 3 6\nd 4 T F\n",
+            "c line 2 cause 3\ns NOT VERIFIED\n",
+        ),
+        (
+            TWO_OF_THREE,
+            "p kpf 3 2\nd 3 T F\nd 2 4 F\nd 2 T 4\nd 1 6 5\ng 1 7\nr 1 0 1 2 0\nr 2 0 1 2 0\nr 0 20 21 2 0\n",
+            "s VERIFIED\n",
+        ),
+        (
+            TWO_OF_THREE,
+            "p kpf 3 2\nd 3 T F\nd 2 4 F\nd 2 T 4\nd 1 6 5\ng 2 7\nr 1 0 1 2 0\nr 2 0 1 2 0\nr 0 20 21 2 0\n",
+            "c line 6 cause 7\ns NOT VERIFIED\n",
+        ),
+        (
+            "p knf 3 3\nq 3 2 1 2 0\n-1 0\n3 0\n",
+            "p kpf 3 3\nd 1 T F\ng 1 4\n",
+            "c line 3 cause 8\ns NOT VERIFIED\n",
+        ),
+        (
             "p cnf 2 1\n1 0\n2 0\n",
             "p kpf 2 1\n",
             "c refused line 3 cause 9\n",
@@ -176,7 +206,7 @@ fn a_proof_that_is_cut_is_wrong_where_it_ends(rt: HostRuntime) -> Result<(), Fai
 
 #[test]
 fn other_words_have_the_usage_line(rt: HostRuntime) -> Result<(), Fail> {
-    let cases: [&[&str]; 15] = [
+    let cases: [&[&str]; 18] = [
         &[],
         &["check", "F"],
         &["check", "F", "P", "X"],
@@ -191,6 +221,9 @@ fn other_words_have_the_usage_line(rt: HostRuntime) -> Result<(), Fail> {
         &["solve", "F", "P", "--conflicts", "1", "--conflicts", "2"],
         &["solve", "F", "P", "--forget", "1", "--conflicts", ""],
         &["solve", "F", "P", "--forget", "1", "--conflicts", "2", "X"],
+        &["convert"],
+        &["convert", ""],
+        &["convert", "F", "P"],
         &["extract", "F"],
     ];
     for words in cases {
@@ -379,5 +412,109 @@ fn a_sink_of_the_proof_that_fails_is_named(rt: HostRuntime) -> Result<(), Fail> 
     assert_eq!(rt; seen.answer.status(), 4);
     assert_eq!(rt; seen.proof.as_slice(), b"p kp".as_slice());
     assert_eq!(rt; seen.text.len(), 0);
+    Ok(())
+}
+
+fn converted(alloc: Global, formula: &str) -> Result<Seen, AllocError> {
+    run_on(
+        alloc,
+        &["convert", "F"],
+        source(alloc, formula, false)?,
+        source(alloc, "", true)?,
+    )
+}
+
+#[test]
+fn convert_writes_clauses(rt: HostRuntime) -> Result<(), Fail> {
+    let cases = [
+        (
+            "p knf 3 3\nk 1 1 2 3 0\nk 3 1 2 3 0\nk 2 1 2 3 0\n",
+            "p cnf 5 9\n1 2 3 0\n1 0\n2 0\n3 0\n1 4 0\n2 5 0\n-4 5 0\n2 -4 0\n3 -5 0\n",
+        ),
+        (
+            "p knf 4 1\nq 4 2 1 2 3 0\n",
+            "p cnf 6 5\n-4 1 5 0\n-4 2 6 0\n-4 -5 6 0\n-4 2 -5 0\n-4 3 -6 0\n",
+        ),
+        (
+            "p knf 2 2\nq 1 1 2 0\nq -1 3 2 0\n",
+            "p cnf 2 2\n-1 2 0\n1 0\n",
+        ),
+        (
+            "c a file\np cnf 3  2\n1 -2\n3 0 -1 0\n%\n0\n",
+            "p cnf 3 2\n1 -2 3 0\n-1 0\n",
+        ),
+        ("p cnf 1000000 0\n", "p cnf 1000000 0\n"),
+        ("p cnf 1000001 0\n", "c refused line 1 cause 3\n"),
+        ("p cnf 1 10000001\n", "c refused line 1 cause 4\n"),
+        (
+            "c a file\np cnf 3  3\n1 -2\n3 0 -1 0\n%\n0\n",
+            "c refused line 5 cause 5\n",
+        ),
+        ("", "c refused line 0 cause 1\n"),
+        ("p knf 2\n", "c refused line 1 cause 2\n"),
+        ("p cnf 2 1\n3 0\n", "c refused line 2 cause 6\n"),
+        ("p knf 2 1\nk 1000001 1 0\n", "c refused line 2 cause 7\n"),
+        ("p knf 2 1\nk 2 1 -1 2 0\n", "c refused line 2 cause 8\n"),
+        ("p cnf 2 1\n1 0 2 0\n", "c refused line 2 cause 9\n"),
+        ("p cnf 2 1\n1 2\n", "c refused line 2 cause 10\n"),
+        ("p cnf 2 2\n1 2 0\n", "c refused line 2 cause 11\n"),
+        ("p knf 2 1\nq 1 1 -1 2 0\n", "c refused line 2 cause 8\n"),
+        ("p cnf 2 1\nq 1 1 2 0\n", "c refused line 2 cause 5\n"),
+        ("p knf 2 1\nq 0 1 2 0\n", "c refused line 2 cause 5\n"),
+        ("p knf 2 1\nq 3 1 2 0\n", "c refused line 2 cause 6\n"),
+        ("p knf 2 1\nq 1 1000001 2 0\n", "c refused line 2 cause 7\n"),
+    ];
+    for (formula, want) in cases {
+        let seen = converted(rt.alloc(), formula)?;
+        assert_eq!(rt; seen.text.as_slice(), want.as_bytes(), "{formula}");
+        assert_eq!(rt; seen.proof.len(), 0);
+    }
+    Ok(())
+}
+
+/// Appends a klause over the variables from the first on, so many.
+fn push_klause(
+    alloc: Global,
+    text: &mut String,
+    bound: u64,
+    first: u64,
+    count: u64,
+    positive: bool,
+) -> Result<(), AllocError> {
+    text.push_str(&format!(in alloc; "k {bound}")?)?;
+    for offset in 0..count {
+        let variable = first.saturating_add(offset);
+        let sign = if positive { "" } else { "-" };
+        text.push_str(&format!(in alloc; " {sign}{variable}")?)?;
+    }
+    text.push_str(" 0\n")
+}
+
+#[test]
+fn convert_numbers_its_counters(rt: HostRuntime) -> Result<(), Fail> {
+    let alloc = rt.alloc();
+    let pigeons = converted(
+        alloc,
+        "p knf 12 7\n1 2 3 0\n4 5 6 0\n7 8 9 0\n10 11 12 0\nk 3 -1 -4 -7 -10 0\nk 3 -2 -5 -8 -11 0\nk 3 -3 -6 -9 -12 0\n",
+    )?;
+    assert_eq!(rt; pigeons.text.starts_with(b"p cnf 21 28\n"), true);
+    let mut rows = String::new(alloc);
+    rows.push_str("p knf 60 10\n")?;
+    for row in 0..5 {
+        push_klause(alloc, &mut rows, 9, 12 * row + 1, 12, false)?;
+        push_klause(alloc, &mut rows, 3, 12 * row + 1, 12, true)?;
+    }
+    let counted = converted(alloc, &rows)?;
+    assert_eq!(rt; counted.answer, Answer::Done);
+    assert_eq!(rt; counted.text.starts_with(b"p cnf 720 1370\n"), true);
+    let mut wide = String::new(alloc);
+    wide.push_str("p knf 7000 1\n")?;
+    push_klause(alloc, &mut wide, 3500, 1, 7000, true)?;
+    let refused = converted(alloc, &wide)?;
+    assert_eq!(rt;
+        refused.text.as_slice(),
+        b"c refused line 0 cause 12\n".as_slice()
+    );
+    assert_eq!(rt; refused.answer.status(), 1);
     Ok(())
 }
