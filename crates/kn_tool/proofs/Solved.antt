@@ -2,7 +2,7 @@
 use Rattle.std.proofs.Common.{◌≡◌, ◌≤◌, ◌<◌, ◌+◌, ◌^◌, ◌++◌, ◌∷◌, Bool, true, List, ℕ, [], length, Option, refl, sym, ap, ◌∙◌, subst, inl, inr, append_assoc, append-nil, arith}
 use Rattle.kn_bytes.specs.Outside.{Rose, Got, GotPrefix}
 use Rattle.kn_bytes.proofs.Joined.{Got-append, Got-nil, GotPrefix-from_Got, GotPrefix-append}
-use Rattle.kn_logic.specs.Formulas.{Problem, Satisfies}
+use Rattle.kn_logic.specs.Formulas.{Problem, IsFormula, Satisfies}
 use Rattle.kn_lines.specs.declared.line.Line.{Line}
 use Rattle.kn_rules.specs.States.{ProofState, start}
 use Rattle.kn_rules.specs.Proofs.{IsProof}
@@ -106,22 +106,22 @@ outcome_found budget f p old new mid o h e =
     )
 
 -- the answer of an outcome
-row_of_outcome : (budget : ℕ) (f : Problem) (p : Change Sink) (bytes text : List ℕ) (o : Outcome) (answer : Answer) → Proves budget f p bytes → OutcomeSays budget f bytes o → IsAnswerOf o answer text → SolvedRow budget f p bytes answer text
-row_of_outcome budget f p bytes text (outcome.Model values) answer proves said (is, told) =
+row_of_outcome : (budget : ℕ) (f : Problem) (p : Change Sink) (bytes text : List ℕ) (o : Outcome) (answer : Answer) → IsFormula f → Proves budget f p bytes → OutcomeSays budget f bytes o → IsAnswerOf o answer text → SolvedRow budget f p bytes answer text
+row_of_outcome budget f p bytes text (outcome.Model values) answer fit proves said (is, told) =
     subst (λ a. SolvedRow budget f p bytes a text) (sym is) (proves, (values, said, told))
-row_of_outcome budget f p bytes text outcome.Refuted answer proves said (is, told) =
-    subst (λ a. SolvedRow budget f p bytes a text) (sym is) (proves, said, proof-refutes f bytes said, told)
-row_of_outcome budget f p bytes text (outcome.Spent learned) answer proves said (is, told) =
+row_of_outcome budget f p bytes text outcome.Refuted answer fit proves said (is, told) =
+    subst (λ a. SolvedRow budget f p bytes a text) (sym is) (proves, said, proof-refutes f bytes fit said, told)
+row_of_outcome budget f p bytes text (outcome.Spent learned) answer fit proves said (is, told) =
     subst (λ a. SolvedRow budget f p bytes a text) (sym is) (proves, said.0, said.1, told)
 
 -- bytes that step and were written whole are a front of bytes that step
 pub proves_front : (budget : ℕ) (f : Problem) (p : Change Sink) (bytes : List ℕ) → Proves budget f p bytes → GotSteps f p
 proves_front budget f p bytes h = (bytes, h.steps, (bytes, [], sym (append-nil bytes), h.got))
 
-pub solved_reply : (budget : ℕ) (f : Problem) (p : Change Sink) (o : Outcome) (r : Reply) → Finds budget f p o → IsReplyOf o r → IsSolvedReply budget f p r
-solved_reply budget f p o (reply.Text answer text) (bytes, proves, said) told = (bytes, row_of_outcome budget f p bytes text.items o answer proves said told)
-solved_reply budget f p o reply.Usage found told = absurd told
-solved_reply budget f p o (reply.Silent answer) (bytes, proves, said) told =
+pub solved_reply : (budget : ℕ) (f : Problem) (p : Change Sink) (o : Outcome) (r : Reply) → IsFormula f → Finds budget f p o → IsReplyOf o r → IsSolvedReply budget f p r
+solved_reply budget f p o (reply.Text answer text) fit (bytes, proves, said) told = (bytes, row_of_outcome budget f p bytes text.items o answer fit proves said told)
+solved_reply budget f p o reply.Usage fit found told = absurd told
+solved_reply budget f p o (reply.Silent answer) fit (bytes, proves, said) told =
     subst (λ a. IsSolvedReply budget f p (reply.Silent a)) (sym told) (inr (proves_front budget f p bytes proves))
 
 -- faults

@@ -1,4 +1,5 @@
 ghost use Rattle.std.specs.Prelude.{◌≡◌, ◌≤◌, ◌^◌, IfOk, IfErr};
+ghost use Rattle.kn_logic.specs.Formulas.{IsFormula};
 ghost use Rattle.kn_tool.specs.Changes.{source_change, sink_change};
 ghost use Rattle.kn_tool.specs.Outcomes.{IsReply};
 ghost use Rattle.kn_tool.specs.Solves.{SolveRow, SolveStops, SolvedStops, Finds, IsReplyOf, IsSolvedReply, satisfiable_text};
@@ -36,7 +37,8 @@ pub fn solve_file<F: Source, P: Sink>(
 }
 
 fn solve_formula<P: Sink>(alloc: Global, f: &Formula, proof: &mut P, options: Options) -> Reply
-    requires { f.now.vars ≤ 2 ^ 32 }
+    requires vars { f.now.vars ≤ 2 ^ 32 }
+    requires formula { IsFormula f.now }
     ensures reply { IsSolvedReply options.conflicts f.now (sink_change P.written P.faults proof.old proof.new) result }
     ensures later { P.faults proof.old ≤ P.faults proof.new }
 {
