@@ -1,5 +1,5 @@
 -- What is seen of a constraint that forces a literal, and the trail with that literal.
-use Rattle.std.proofs.Common.{◌≡◌, ℕ, ◌+◌, ◌≤◌, ◌<◌, ◌++◌, Bool, true, false, cond, List, [], ◌∷◌, length, Option, None, Some, refl, sym, ◌∙◌, subst, length-append, inl, inr, arith}
+use Rattle.std.proofs.Common.{◌≡◌, ℕ, ◌<◌, ◌++◌, Bool, true, false, cond, List, [], ◌∷◌, Option, None, Some, refl, sym, subst, length-append, inl, inr, arith}
 use Rattle.std.proofs.lemmas.Bool.{or_right, cases_Bool, not_from_false}
 use Rattle.std.proofs.lemmas.Option.{same_Some}
 use Rattle.kn_logic.specs.Literals.{Literal, negated, is_same, has, names, IsKnown, AreKnown}

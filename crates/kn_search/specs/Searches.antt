@@ -4,7 +4,6 @@ use Rattle.kn_logic.specs.Literals.{Literal, has, names, IsKnown}
 use Rattle.kn_logic.specs.Constraints.{Bounded, clause, Holds}
 use Rattle.kn_logic.specs.Assignments.{value_of}
 use Rattle.kn_logic.specs.Formulas.{Problem, Satisfies}
-use Rattle.kn_logic.specs.Propagation.{after_hint}
 use Rattle.kn_lines.specs.declared.line.Line.{Line}
 use Rattle.kn_lines.specs.declared.line.Line.TheVariants.{Lemma, Learned}
 use Rattle.kn_rules.specs.declared.given.Given.{Given}

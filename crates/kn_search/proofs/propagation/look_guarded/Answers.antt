@@ -1,6 +1,6 @@
 use Rattle.std.proofs.Common.{◌≡◌, ◌<◌, sym, ◌∙◌, subst, arith}
 use Rattle.std.specs.Prelude.{false}
-use Rattle.kn_logic.specs.Literals.{names, negated}
+use Rattle.kn_logic.specs.Literals.{names}
 use Rattle.kn_logic.specs.Propagation.{open_places, after_guard}
 use Rattle.kn_search.specs.declared.propagation.Seen.TheVariants as seen
 use Rattle.kn_search.specs.Trails.{literals}
