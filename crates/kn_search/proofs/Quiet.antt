@@ -3,7 +3,7 @@ use Rattle.std.proofs.Common.{◌≡◌, ℕ, ◌+◌, ◌-◌, ◌≤◌, ◌<�
 use Rattle.std.specs.List.{filter, slice_get}
 use Rattle.std.specs.Option.{option_and_then}
 use Rattle.std.proofs.lemmas.Option.{slice_get_past}
-use Rattle.std.proofs.lemmas.Bool.{or_cases, cases_Bool, cond-true, cond-false, eqb-true, eq-eqb, ne_eqb, ltb-true}
+use Rattle.std.proofs.lemmas.Bool.{or_cases, cases_Bool, cond-true, cond-false, eq-eqb, ne_eqb, ltb-true}
 use Rattle.kn_logic.specs.Literals.{Literal, negated, is_same, has, names}
 use Rattle.kn_logic.specs.Propagation.{is_open, open_places, after_bound, after_guard}
 use Rattle.kn_rules.specs.declared.given.Given.{Given}

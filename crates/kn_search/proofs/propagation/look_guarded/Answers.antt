@@ -1,6 +1,4 @@
-use Rattle.std.proofs.Common.{◌≡◌, ◌<◌, sym, ◌∙◌, subst, true, arith}
-use Rattle.std.specs.Prelude.{false}
-use Rattle.kn_logic.specs.Literals.{has, names, negated}
+use Rattle.std.proofs.Common.{◌<◌, sym, subst, arith}
 use Rattle.kn_logic.specs.Propagation.{open_places, after_guard}
 use Rattle.kn_search.specs.declared.propagation.Seen.TheVariants as seen
 use Rattle.kn_search.specs.Trails.{literals}
