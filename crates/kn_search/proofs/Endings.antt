@@ -1,5 +1,5 @@
 -- What a search has done when it ends, and what it keeps behind a learned clause.
-use Rattle.std.proofs.Common.{◌≡◌, ℕ, ◌+◌, ◌≤◌, ◌++◌, ◌||◌, Bool, true, false, List, [], ◌∷◌, Option, Some, Result, Ok, Err, refl, sym, ap, ◌∙◌, subst}
+use Rattle.std.proofs.Common.{◌≡◌, ℕ, ◌+◌, ◌≤◌, true, false, List, [], Option, Some, Result, Ok, Err, refl, sym, ap, ◌∙◌, subst}
 use Rattle.std.specs.Result.{IfErr, IsErrAnd}
 use Rattle.std.proofs.lemmas.Bool.{or_right}
 use Rattle.kn_logic.specs.Literals.{Literal}
@@ -17,7 +17,7 @@ use Rattle.kn_search.specs.declared.outcome.Outcome.{Outcome}
 use Rattle.kn_search.specs.declared.outcome.Outcome.TheVariants.{Refuted}
 use Rattle.kn_search.specs.declared.outcome.SearchError.{SearchError}
 use Rattle.kn_search.specs.declared.trail.Entry.{Entry}
-use Rattle.kn_search.specs.Trails.{Trailed, before_decision, refuted_decisions, Follows}
+use Rattle.kn_search.specs.Trails.{Trailed, before_decision, refuted_decisions}
 use Rattle.kn_search.specs.Outcomes.{Learns, Ends, EndsNot, error_of}
 use Rattle.kn_search.specs.Searches.{IsSearching, conflict_hints, learned_line, refuting_line}
 use Rattle.kn_search.proofs.Entries.{before-follows}

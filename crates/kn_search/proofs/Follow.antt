@@ -1,8 +1,8 @@
 -- The entries of a trail follow from what is given: they still do where more is given, up to each entry, and
 -- with one more that is forced. Run as hints from the decisions, the reasons give the whole trail, so that
 -- the clause of the decisions follows of a conflict.
-use Rattle.std.proofs.Common.{◌≡◌, ℕ, zero, suc, ◌+◌, ◌-◌, ◌≤◌, ◌<◌, ◌++◌, Bool, true, false, not, cond, eqb, List, [], ◌∷◌, map, Option, None, Some, Result, Ok, Err, IsOk, refl, sym, ap, ◌∙◌, subst, append_assoc, arith}
-use Rattle.std.specs.List.{AllByRecursion, slice_get}
+use Rattle.std.proofs.Common.{◌≡◌, ℕ, zero, suc, ◌-◌, ◌≤◌, ◌++◌, Bool, true, false, cond, eqb, List, [], ◌∷◌, map, Option, None, Some, Ok, Err, IsOk, refl, sym, ap, subst, append_assoc, arith}
+use Rattle.std.specs.List.{slice_get}
 use Rattle.std.specs.Option.{is_none, option_and_then, option_map}
 use Rattle.std.proofs.lemmas.Bool.{and_from, le-leb, cond-true}
 use Rattle.std.proofs.lemmas.List.{append-nil}

@@ -1,14 +1,12 @@
 -- What a hint makes of a longer list: it ends in conflict wherever it did, and what joined the shorter list
 -- is in the longer one. And what a hint forces, seen from its open places.
-use Rattle.std.proofs.Common.{◌≡◌, ℕ, zero, suc, ◌+◌, ◌≤◌, ◌<◌, ◌⊎◌, ◌++◌, Bool, true, false, not, cond, eqb, ltb, List, [], ◌∷◌, Option, None, Some, refl, sym, ap, ◌∙◌, subst, inl, inr, arith}
-use Rattle.std.specs.List.{AllByRecursion, list_any, filter, slice_get}
-use Rattle.std.specs.Option.{option_and_then}
+use Rattle.std.proofs.Common.{◌≡◌, ℕ, ◌≤◌, ◌<◌, ◌⊎◌, ◌++◌, Bool, true, false, not, cond, eqb, ltb, List, [], ◌∷◌, Option, None, Some, refl, sym, ◌∙◌, subst, inl, inr, arith}
+use Rattle.std.specs.List.{AllByRecursion, filter}
 use Rattle.std.proofs.lemmas.Bool.{and_parts, and_from, or_cases, or_left, or_right, cases_Bool, cond_both, cond-true, cond-false, eqb-true, eq-eqb, ltb-true, ltb-false, not_from_false}
 use Rattle.std.proofs.lemmas.List.Folds.{list_any-append}
-use Rattle.std.proofs.lemmas.Option.{same_Some}
-use Rattle.kn_logic.specs.Literals.{Literal, negated, is_same, has, places}
+use Rattle.kn_logic.specs.Literals.{Literal, negated, is_same, has}
 use Rattle.kn_logic.specs.Constraints.{Bounded}
-use Rattle.kn_logic.specs.Propagation.{is_open, open_places, after_bound, after_guard, after_parts, after_hint, hint_run}
+use Rattle.kn_logic.specs.Propagation.{is_open, open_places, after_bound, after_guard, after_parts, after_hint}
 use Rattle.kn_rules.proofs.Truth.{places-le, all-kept}
 use Rattle.kn_search.specs.Trails.{Forces}
 

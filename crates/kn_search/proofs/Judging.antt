@@ -1,10 +1,10 @@
 -- The test of an assignment against the formula, and what it says of a trail without a choice left.
-use Rattle.std.proofs.Common.{◌≡◌, ℕ, zero, suc, ◌+◌, List, [], ◌∷◌, drop, length, Bool, Option, None, Some, refl, sym, ap, ◌∙◌, subst, arith}
+use Rattle.std.proofs.Common.{◌≡◌, ℕ, zero, suc, ◌+◌, List, [], ◌∷◌, drop, Bool, Some, sym, ap, ◌∙◌, subst, arith}
 use Rattle.std.specs.List.{AllByRecursion, slice_get}
 use Rattle.std.proofs.Math.Seq.{drop-cons}
 use Rattle.std.proofs.lemmas.Option.{same_Some, slice_get_within, get_or_from_slice_get}
 use Rattle.kn_logic.specs.Literals.{AreDifferent}
-use Rattle.kn_logic.specs.Constraints.{Bounded, Holds, Fits, IsWithin}
+use Rattle.kn_logic.specs.Constraints.{Bounded, Fits, IsWithin}
 use Rattle.kn_logic.specs.Formulas.{Problem, IsFormula}
 use Rattle.kn_rules.specs.States.{ProofState, live_at}
 use Rattle.kn_search.specs.declared.deciding.Found.{Found}

@@ -8,3 +8,4 @@ pub mod Judging
 pub mod Steps
 pub mod Clauses
 pub mod Endings
+pub mod Quiet

@@ -8,7 +8,7 @@ use Rattle.kn_logic.specs.Literals.{Literal}
 use Rattle.kn_logic.specs.Constraints.{Bounded}
 use Rattle.kn_logic.specs.Formulas.{Problem}
 use Rattle.kn_bytes.specs.Outside.{Got, GotPrefix}
-use Rattle.kn_bytes.proofs.Joined.{Got-nil, Got-append}
+use Rattle.kn_bytes.proofs.Joined.{Got-append}
 use Rattle.kn_lines.specs.declared.line.Line.{Line}
 use Rattle.kn_lines.specs.declared.line.Line.TheVariants.{Lemma, Learned}
 use Rattle.kn_rules.specs.declared.given.Given.{Given}
@@ -16,7 +16,7 @@ use Rattle.kn_rules.specs.declared.given.Origin.{Origin}
 use Rattle.kn_rules.specs.States.{ProofState, from_file, given_at, live_at}
 use Rattle.kn_rules.specs.Steps.{hinted, with_clause, if_conflict, follow, step}
 use Rattle.kn_log.specs.Logs.{line_bytes, IsSpelled}
-use Rattle.kn_log.specs.Written.{StepsBy, AreSpelled, lines_bytes, is_learned, learned_in}
+use Rattle.kn_log.specs.Written.{lines_bytes, is_learned, learned_in}
 use Rattle.kn_log.proofs.Added.{StepsBy-append, AreSpelled-append, lines_bytes-append}
 use Rattle.kn_search.specs.Outcomes.{Learns, Breaks}
 use Rattle.kn_search.specs.Searches.{HasFile}

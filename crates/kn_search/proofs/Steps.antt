@@ -1,5 +1,5 @@
 -- What a search keeps, from one step to the next.
-use Rattle.std.proofs.Common.{◌≡◌, ℕ, ◌++◌, List, [], ◌∷◌, None, sym, ◌∙◌, subst}
+use Rattle.std.proofs.Common.{◌≡◌, ◌++◌, List, [], ◌∷◌, None, sym, ◌∙◌, subst}
 use Rattle.kn_logic.specs.Literals.{Literal}
 use Rattle.kn_logic.specs.Formulas.{Problem}
 use Rattle.kn_rules.specs.States.{ProofState}

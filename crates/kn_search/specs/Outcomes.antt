@@ -1,5 +1,5 @@
 -- What a search has done: the lines that it logged, and what its outcome says.
-use Rattle.std.specs.Prelude.{ℕ, ◌≡◌, ◌≤◌, ◌++◌, ◌∷◌, Bool, true, false, List, [], Option}
+use Rattle.std.specs.Prelude.{ℕ, ◌≡◌, ◌≤◌, ◌++◌, ◌∷◌, true, false, List, [], Option}
 use Rattle.kn_logic.specs.Formulas.{Problem, Satisfies}
 use Rattle.kn_bytes.specs.Outside.{Got, GotPrefix}
 use Rattle.kn_lines.specs.declared.line.Line.{Line}

@@ -8,7 +8,7 @@ use Rattle.kn_logic.specs.Propagation.{after_hint}
 use Rattle.kn_lines.specs.declared.line.Line.{Line}
 use Rattle.kn_lines.specs.declared.line.Line.TheVariants.{Lemma, Learned}
 use Rattle.kn_rules.specs.declared.given.Given.{Given}
-use Rattle.kn_rules.specs.States.{ProofState, from_file}
+use Rattle.kn_rules.specs.States.{ProofState, from_file, live_at}
 use Rattle.kn_search.specs.declared.trail.Entry.{Entry}
 use Rattle.kn_search.specs.declared.propagation.Seen.{Seen}
 use Rattle.kn_search.specs.declared.propagation.Seen.TheVariants.{Quiet, Forces, Conflict}
@@ -18,23 +18,41 @@ use Rattle.kn_search.specs.declared.deciding.Found.{Found}
 use Rattle.kn_search.specs.declared.deciding.Found.TheVariants as found
 use Rattle.kn_search.specs.Trails.{Trailed, literals, reasons, refuted_decisions, Follows, IsConflict}
 
--- What was seen of a constraint: it is in conflict, or forces a literal without a value. `after` is what it makes
--- of the list as a hint.
+-- A hint, which makes this of the list, adds nothing that is not there.
+abbrev pub AddsNothing : List Literal → Option (List Literal) → Type 0
+AddsNothing trail after = (next : List Literal) × (after ≡ Some next) × ((l : Literal) → has next l ≡ true → has trail l ≡ true)
+
+-- What was seen of a constraint: it adds nothing, forces a literal without a value, or is in conflict. `after` is
+-- what it makes of the list as a hint.
 abbrev pub Sees : ℕ → List Literal → Option (List Literal) → Seen → Type 0
-Sees vars trail after Quiet = Unit {0}
+Sees vars trail after Quiet = AddsNothing trail after
 Sees vars trail after (Forces l) =
     IsKnown vars l × (names trail l.variable ≡ false) × ((next : List Literal) × (after ≡ Some next) × (has next l ≡ true))
 Sees vars trail after Conflict = after ≡ None
+
+-- the constraint of this id, if it is live, adds nothing
+abbrev pub IsQuiet : List Given → List Literal → ℕ → Type 0
+IsQuiet given trail id = (c : Bounded) → live_at given id ≡ Some c → AddsNothing trail (after_hint trail c)
+
+-- no live constraint adds anything
+abbrev pub IsSettled : List Given → List Literal → Type 0
+IsSettled given trail = (id : ℕ) → IsQuiet given trail id
+
+-- whether a constraint is in conflict, once all that it forces was added
+abbrev pub Settles : List Given → List Literal → ℕ → Bool → Type 0
+Settles given trail id true = IsConflict given trail id
+Settles given trail id false = IsQuiet given trail id
 
 -- the trail has grown, or is as before, and follows
 pub record Extends (given : List Given) (old new : Trailed) : Type 0 where
   pub vars : new.vars ≡ old.vars
   pub follows : Follows given [] new.entries
   pub longer : length old.entries ≤ length new.entries
+  pub same : length new.entries ≡ length old.entries → new ≡ old
 
 -- what a visit of the constraint with this id did
 abbrev pub Visited : List Given → ℕ → Trailed → Trailed → Effect → Type 0
-Visited given id old new effect.Quiet = new ≡ old
+Visited given id old new effect.Quiet = (new ≡ old) × IsQuiet given (literals new.entries) id
 Visited given id old new effect.Forced = (length old.entries < length new.entries) × (length new.entries < 2 ^ 64)
 Visited given id old new effect.Conflict = IsConflict given (literals new.entries) id
 

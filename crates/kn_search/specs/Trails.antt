@@ -1,6 +1,6 @@
 -- A trail: the literals that a search takes to be true, in the order in which they came, each decided or
 -- forced by a constraint, its reason.
-use Rattle.std.specs.Prelude.{ℕ, ◌≡◌, ◌≤◌, ◌++◌, ◌∷◌, Bool, true, false, if◌then◌else◌, List, [], map, Option, Some, None}
+use Rattle.std.specs.Prelude.{ℕ, ◌≡◌, ◌≤◌, ◌++◌, ◌∷◌, Bool, true, if◌then◌else◌, List, [], map, Option, Some, None}
 use Rattle.std.specs.List.{list_any}
 use Rattle.std.specs.Option.{is_none}
 use Rattle.kn_logic.specs.Literals.{Literal, negated, has, names, AreKnown, AreDifferent}

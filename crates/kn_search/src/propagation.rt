@@ -1,9 +1,9 @@
-ghost use Rattle.std.specs.Prelude.{◌≡◌, ◌≤◌, [], length, IfOk, IfSome, IsTrue};
+ghost use Rattle.std.specs.Prelude.{◌≡◌, ◌≤◌, [], length, IfOk, IfSome, IfNone};
 ghost use Rattle.kn_logic.specs.Literals.{IsKnown, AreKnown};
 ghost use Rattle.kn_logic.specs.Constraints.{IsWithin};
 ghost use Rattle.kn_logic.specs.Propagation.{after_bound, after_guard, after_hint};
 ghost use Rattle.kn_search.specs.Trails.{literals, Follows, IsConflict};
-ghost use Rattle.kn_search.specs.Searches.{Sees, Extends, Visited};
+ghost use Rattle.kn_search.specs.Searches.{Sees, Extends, Visited, Settles, IsSettled};
 
 use crate::trail::Trail;
 use kn_log::Log;
@@ -37,12 +37,16 @@ pub fn settle(log: &Log, trail: &mut Trail) -> Result<Option<u64>, NoMemory>
     requires follows { Follows log.now.state.given [] trail.old.entries }
     ensures extends { Extends log.now.state.given trail.old trail.new }
     ensures conflict { IfOk result (λ found. IfSome found (IsConflict log.now.state.given (literals trail.new.entries))) }
+    ensures settled { IfOk result (λ found. IfNone found (IsSettled log.now.state.given (literals trail.new.entries))) }
 {
     loop {
         let before = trail.len();
         let conflict = visit_all(log, trail)?;
-        if conflict.is_some() || trail.len() == before {
+        if conflict.is_some() {
             return Ok(conflict);
+        }
+        if trail.len() == before {
+            return Ok(None);
         }
     }
 }
@@ -53,6 +57,7 @@ fn visit_all(log: &Log, trail: &mut Trail) -> Result<Option<u64>, NoMemory>
     requires follows { Follows log.now.state.given [] trail.old.entries }
     ensures extends { Extends log.now.state.given trail.old trail.new }
     ensures conflict { IfOk result (λ found. IfSome found (IsConflict log.now.state.given (literals trail.new.entries))) }
+    ensures settled { IfOk result (λ found. IfNone found (length trail.new.entries ≡ length trail.old.entries → IsSettled log.now.state.given (literals trail.new.entries))) }
 {
     for id in (1..log.next_id()).rev() {
         if force_all(log, trail, id)? {
@@ -67,7 +72,7 @@ fn force_all(log: &Log, trail: &mut Trail, id: u64) -> Result<bool, NoMemory>
     requires vars { trail.old.vars ≡ log.now.state.vars }
     requires follows { Follows log.now.state.given [] trail.old.entries }
     ensures extends { Extends log.now.state.given trail.old trail.new }
-    ensures conflict { IfOk result (λ yes. IsTrue yes → IsConflict log.now.state.given (literals trail.new.entries) id) }
+    ensures settles { IfOk result (Settles log.now.state.given (literals trail.new.entries) id) }
 {
     loop {
         match visit(log, trail, id)? {
@@ -109,7 +114,8 @@ fn look(trail: &Trail, c: &Constraint) -> Seen
     }
 }
 
-/// Where the guard has no value, its negation is forced; where it is false, nothing is.
+/// Where the guard is true, this is as without it; where it is false, nothing is forced; else its negation is
+/// where fewer literals than the bound are not false.
 fn look_guarded(trail: &Trail, guard: Lit, bound: u64, lits: &[Lit]) -> Seen
     requires guard { IsKnown trail.now.vars guard }
     requires known { AreKnown trail.now.vars lits.now }
@@ -118,10 +124,13 @@ fn look_guarded(trail: &Trail, guard: Lit, bound: u64, lits: &[Lit]) -> Seen
     if trail.has(guard) {
         return look_bound(trail, bound, lits);
     }
-    if !trail.is_set(guard) && trail.count_open(lits) < bound {
-        return Seen::Forces(guard.negated());
+    if trail.is_set(guard) {
+        return Seen::Quiet;
     }
-    Seen::Quiet
+    if trail.count_open(lits) >= bound {
+        return Seen::Quiet;
+    }
+    Seen::Forces(guard.negated())
 }
 
 /// Where just as many literals as the bound are not false, those without a value are forced.

@@ -1,4 +1,4 @@
-use Rattle.std.proofs.Common.{sym, ap, ◌∙◌, subst, List}
+use Rattle.std.proofs.Common.{ap, ◌∙◌, subst, List}
 use Rattle.kn_logic.specs.Literals.{Literal, AreKnown}
 use Rattle.kn_logic.specs.Constraints.{clause}
 use Rattle.kn_rules.specs.declared.given.Origin.TheVariants as origin

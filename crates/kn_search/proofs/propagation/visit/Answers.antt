@@ -1,4 +1,4 @@
-use Rattle.std.proofs.Common.{◌≡◌, sym, ◌∙◌, subst}
+use Rattle.std.proofs.Common.{sym}
 use Rattle.kn_search.proofs.Forcing.{forced-extends}
 use Rattle.kn_search.proofs.propagation.visit.Goals as goal
 

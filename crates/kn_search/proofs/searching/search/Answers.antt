@@ -1,4 +1,4 @@
-use Rattle.std.proofs.Common.{◌≡◌, ◌≤◌, ◌+◌, arith}
+use Rattle.std.proofs.Common.{arith}
 use Rattle.kn_search.specs.Searches.{learned_line, refuting_line}
 use Rattle.kn_search.proofs.Endings.{ends-not, error-ends, ends-refuted, searching-learned, learned-more}
 use Rattle.kn_search.proofs.searching.search.Goals as goal

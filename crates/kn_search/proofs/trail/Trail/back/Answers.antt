@@ -1,4 +1,4 @@
-use Rattle.std.proofs.Common.{◌≡◌, sym, ap, ◌∙◌}
+use Rattle.std.proofs.Common.{sym, ap, ◌∙◌}
 use Rattle.kn_search.specs.Trails.{before_decision}
 use Rattle.kn_search.proofs.Entries.{before-decided, before-forced, some-none, none-some, same-trail}
 use Rattle.kn_search.proofs.trail.Trail.back.Goals as goal

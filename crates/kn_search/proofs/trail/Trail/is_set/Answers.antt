@@ -1,6 +1,5 @@
-use Rattle.std.proofs.Common.{◌≡◌, ◌||◌, sym, ap, ◌∙◌, arith}
+use Rattle.std.proofs.Common.{◌≡◌, sym, ap, ◌∙◌, arith}
 use Rattle.std.proofs.lemmas.Grind.{common_steps}
-use Rattle.kn_logic.specs.Literals.{negated, has, names}
 use Rattle.kn_search.specs.Trails.{Trailed, literals}
 use Rattle.kn_search.proofs.Entries.{set-names}
 use Rattle.kn_search.proofs.trail.Trail.is_set.Goals as goal

@@ -1,4 +1,4 @@
-use Rattle.std.proofs.Common.{◌++◌, ◌∷◌, [], sym, subst}
+use Rattle.std.proofs.Common.{sym, subst}
 use Rattle.kn_logic.specs.Literals.{AreDifferent}
 use Rattle.kn_search.specs.Trails.{IsTrail}
 use Rattle.kn_search.proofs.Entries.{different-alone, trail-popped}

@@ -1,5 +1,3 @@
-use Rattle.std.proofs.Common.{◌≡◌, ◌≤◌, true, ℕ}
-use Rattle.kn_logic.specs.Literals.{names}
 use Rattle.kn_search.specs.Trails.{literals, IsValued}
 use Rattle.kn_search.proofs.trail.Trail.unset_variable.Given as goal
 
