@@ -180,7 +180,8 @@ fn unfolded_klauses(rt: HostRuntime) -> Result<(), Fail> {
 }
 
 // The first cause of a line behind a head of eight lines: 7 stands for "at least two of 1, 2 and 3", id 19
-// is its unit clause, id 20 that of 1, and id 21 the clause of 1 and -1.
+// is its unit clause, id 20 that of 1, and id 21 the clause of 1 and -1. The last cases spell nodes of the
+// grid once more.
 #[test]
 fn first_causes(rt: HostRuntime) -> Result<(), Fail> {
     let f = contradiction(rt.alloc())?;
@@ -240,6 +241,10 @@ fn first_causes(rt: HostRuntime) -> Result<(), Fail> {
         ("g 21 99", 3),
         ("x 19 0\nk 2 1 2 3 0 7 19", 4),
         ("x 1 0\ng 1 7", 4),
+        ("d -3 F T\nd 2 T 8\nd -1 5 9\ng 1 10", 9),
+        ("d -3 F T\nd 2 T 8\nd -1 9 5\ng 1 10", 7),
+        ("d -3 T F\nd 2 T 8\nd 1 9 5\ng 1 10", 7),
+        ("d 3 T F\nd 2 -8 F\nd 2 T 8\nd 1 10 9\ng 1 11", 7),
     ];
     for (line, why) in cases {
         let text = format!(in rt.alloc(); "{head}{line}\n")?;
