@@ -106,7 +106,7 @@ pub positive-arm : (l : Literal) → l.positive ≡ true → arm_of l.variable �
 positive-arm l e = ap (λ p. arm.Lit (record { variable = l.variable; positive = p })) (sym e)
 
 -- behind the last literal no variable stands for a node
-none-node : (c : Cell) (o : Option Definition) (variable : ℕ) → stands_as c (λ d. false) o (arm_of variable) ≡ false
+pub none-node : (c : Cell) (o : Option Definition) (variable : ℕ) → stands_as c (λ d. false) o (arm_of variable) ≡ false
 none-node cell.True o variable = refl
 none-node cell.False o variable = refl
 none-node cell.Inner None variable = refl
@@ -139,10 +139,15 @@ add-false definition old rest j a c does e f g =
 pub add-negated : (definition : ℕ → Option Definition) (old : Bool) (rest : List Literal) (j : ℕ) (a : Arm) (l : Literal) → a ≡ arm.Lit l → l.positive ≡ false → false ≡ (old && stands_for definition rest j a)
 add-negated definition old rest j a l e f = and-false old _ (ap (stands_for definition rest j) e ∙ stands-negated definition rest j l f)
 
-pub add-variable : (definition : ℕ → Option Definition) (old new : List (ℕ × ℕ)) (rest : List Literal) (j variable : ℕ) (a : Arm) (l : Literal) → a ≡ arm.Lit l → l.positive ≡ true → variable ≡ l.variable → new ≡ insert_key same_demand old (variable, j) → all_stand definition rest new ≡ (all_stand definition rest old && stands_for definition rest j a)
-add-variable definition old new rest j variable a l e f g h =
-    ap (all_stand definition rest) h ∙ stand-insert definition rest old (variable, j)
-    ∙ ap (λ b. all_stand definition rest old && stands_for definition rest j b) (ap arm_of g ∙ positive-arm l f ∙ sym e)
+pub add-variable : (definition : ℕ → Option Definition) (old new : List (ℕ × ℕ)) (rest : List Literal) (j first variable : ℕ) (a : Arm) (l : Literal) → a ≡ arm.Lit l → l.positive ≡ true → variable ≡ l.variable → stands_for definition rest j (arm_of first) ≡ stands_for definition rest j (arm_of variable) → new ≡ insert_key same_demand old (first, j) → all_stand definition rest new ≡ (all_stand definition rest old && stands_for definition rest j a)
+add-variable definition old new rest j first variable a l e f g like h =
+    ap (all_stand definition rest) h ∙ stand-insert definition rest old (first, j)
+    ∙ ap (λ b. all_stand definition rest old && b) (like ∙ ap (stands_for definition rest j) (ap arm_of g ∙ positive-arm l f ∙ sym e))
+
+-- the root alone
+pub root-alone : (definition : ℕ → Option Definition) (lits : List Literal) (none level : List (ℕ × ℕ)) (bound first root : ℕ) → stands_for definition lits bound (arm_of first) ≡ stands_for definition lits bound (arm_of root) → none ≡ [] → level ≡ insert_key same_demand none (first, bound) → all_stand definition lits level ≡ stands_for definition lits bound (arm_of root)
+root-alone definition lits none level bound first root like empty e =
+    ap (all_stand definition lits) (e ∙ ap (λ (ds : List (ℕ × ℕ)). insert_key same_demand ds (first, bound)) empty) ∙ and-true _ ∙ like
 
 -- one demand of the level
 drop_at : {X : Type 0} (xs : List X) (place : ℕ) (x : X) → slice_get xs place ≡ Some x → drop place xs ≡ x ∷ drop (place + 1) xs

@@ -9,18 +9,8 @@ use Rattle.kn_lines.specs.declared.line.Arm.TheVariants as arm
 use Rattle.kn_rules.specs.declared.definition.Definition.{Definition}
 use Rattle.kn_rules.specs.declared.given.Given.{Given}
 use Rattle.kn_rules.specs.States.{AreLiveWithin}
+use Rattle.kn_rules.specs.Sharing.{IsArmWithin, IsDefinedWithin}
 use Rattle.kn_rules.proofs.Nodes.{arm_value, defined_value}
-
-abbrev pub IsArmWithin : ℕ → Arm → Type 0
-IsArmWithin vars arm.True = Unit {0}
-IsArmWithin vars arm.False = Unit {0}
-IsArmWithin vars (arm.Lit l) = IsKnown vars l
-
--- the test and the arms are over the variables from 1 to this number
-pub record IsDefinedWithin (vars : ℕ) (d : Definition) : Type 0 where
-  pub test : IsKnown vars d.test
-  pub high : IsArmWithin vars d.high
-  pub low : IsArmWithin vars d.low
 
 -- more variables
 pub known-more : (vars more : ℕ) (l : Literal) → vars ≤ more → IsKnown vars l → IsKnown more l

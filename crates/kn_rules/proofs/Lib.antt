@@ -9,5 +9,6 @@ pub mod Extending
 pub mod Defining
 pub mod Units
 pub mod Ready
+pub mod Sharing
 pub mod Sound
 pub mod Faults

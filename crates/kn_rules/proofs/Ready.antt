@@ -1,16 +1,17 @@
 -- What a checker keeps between two lines.
-use Rattle.std.proofs.Common.{◌≡◌, ℕ, ◌+◌, ◌++◌, ◌&&◌, Bool, true, false, cond, leb, List, [], ◌∷◌, length, length-append, map, Some, Result, Err, IsOk, refl, sym, ap, ◌∙◌, subst, arith}
+use Rattle.std.proofs.Common.{◌≡◌, ℕ, ◌+◌, ◌-◌, ◌≤◌, ◌++◌, ◌&&◌, Bool, true, false, cond, leb, List, [], ◌∷◌, length, length-append, map, Some, Result, Err, IsOk, IfOk, refl, sym, ap, ◌∙◌, subst, arith}
 use Rattle.std.specs.List.{AllByRecursion}
 use Rattle.std.proofs.lemmas.Bool.{and_parts, leb-true}
 use Rattle.kn_logic.specs.Literals.{Literal, AreKnown}
 use Rattle.kn_logic.specs.Constraints.{Bounded, clause, klause, Fits, IsWithin}
 use Rattle.kn_lines.specs.declared.line.Arm.{Arm}
-use Rattle.kn_rules.specs.declared.definition.Definition.{Definition}
 use Rattle.kn_rules.specs.declared.given.Given.{Given}
 use Rattle.kn_rules.specs.declared.given.Origin.{Origin}
-use Rattle.kn_rules.specs.States.{ProofState, from_file, IsLiveWithin, AreLiveWithin, IsReady}
+use Rattle.kn_rules.specs.States.{ProofState, defined_among, looked_up, definition_of, from_file, IsLiveWithin, AreLiveWithin, Defined, IsReady}
+use Rattle.kn_rules.specs.Sharing.{IsDefinedWithin}
+use Rattle.kn_rules.specs.Grids.{is_root}
 use Rattle.kn_rules.specs.Marks.{Assumed}
-use Rattle.kn_rules.specs.Steps.{are_known, follow, is_known_variable, is_known_arm, next_variable, definition_clauses, with_definition, define, count}
+use Rattle.kn_rules.specs.Steps.{are_known, follow, is_known_variable, is_known_arm, by_definition, definition_clauses, define, count}
 use Rattle.kn_rules.proofs.Elements.{All-push, All-append}
 use Rattle.kn_rules.proofs.Extending.{live-more, defined-more}
 use Rattle.kn_rules.proofs.Defining.{by_definition-all, definition-within}
@@ -51,16 +52,37 @@ counted-within s c root unit formed ok =
     let known = known-if (are_known s.vars c.lits && is_known_variable s.vars root) _ ok in
     known-within s.vars c c formed refl (and_parts (are_known s.vars c.lits) (is_known_variable s.vars root) known).0
 
+-- entries that are over the variables, and the trail as it was
+pub still-ready : (vars : ℕ) (defined : Defined) (given more : List Given) (old new : Assumed) → IsReady vars defined given old → new ≡ old → AreLiveWithin vars more → IsReady vars defined more new
+still-ready vars defined given more old new h same within = record {
+  empty = ap (λ (a : Assumed). a.lits) same ∙ h.empty;
+  trail = subst (λ (a : Assumed). vars ≤ a.vars) (sym same) h.trail;
+  within = within;
+  count = h.count;
+}
+
 -- one definition more
-pub defined-ready : (s : ProofState) (x : Literal) (high low : Arm) (old new : Assumed) (definitions : List Definition) (given : List Given) → IsReady s.vars s.definitions s.given old → IsOk (define s x high low) → definitions ≡ (with_definition s x high low).definitions → given ≡ (with_definition s x high low).given → new ≡ record old { vars = old.vars + 1 } → IsReady (s.vars + 1) definitions given new
-defined-ready s x high low old new definitions given h ok d g t =
-    let known = known-if (is_known_variable s.vars x.variable && (is_known_arm s.vars high && is_known_arm s.vars low)) _ ok in
-    let w = defined-more s.vars (s.vars + 1) _ (omega arith) (defined-known s.vars x high low known) in
-    let added = definition-within (s.vars + 1) (next_variable s) x high low (omega arith, omega arith) w.test w.high w.low in
-    let count' : length definitions ≡ length s.definitions + 1 = ap length d ∙ length-append s.definitions _ in
+pub defined-push : (s : ProofState) (x : Literal) (high low : Arm) (n : ℕ) → IsOk (define s x high low) → n ≡ s.vars → IsDefinedWithin n (record { test = x; high = high; low = low })
+defined-push s x high low n ok e =
+    subst (λ k. IsDefinedWithin k (record { test = x; high = high; low = low })) (sym e)
+    (defined-known s.vars x high low (known-if (is_known_variable s.vars x.variable && (is_known_arm s.vars high && is_known_arm s.vars low)) _ ok))
+
+pub defined-ready : (s : ProofState) (x : Literal) (high low : Arm) (before after : Defined) (old new : Assumed) (given : List Given) (variable : ℕ) → IsReady s.vars before s.given old → IsOk (define s x high low) → variable ≡ s.vars + 1 → after ≡ record before { list = before.list ++ (record { test = x; high = high; low = low }) ∷ [] } → given ≡ s.given ++ map by_definition (definition_clauses (record { variable = variable; positive = true }) x high low) → new ≡ record old { vars = old.vars + 1 } → IsReady variable after given new
+defined-ready s x high low before after old new given variable h ok v d g t =
+    let w = defined-more s.vars variable _ (omega (arith, v)) (defined-push s x high low s.vars ok refl) in
+    let added = definition-within variable (record { variable = variable; positive = true }) x high low (omega (arith, v), omega arith) w.test w.high w.low in
+    let base : after.base ≡ before.base = ap (λ (a : Defined). a.base) d in
+    let longer : length after.list ≡ length before.list + 1 = ap (λ (a : Defined). length a.list) d ∙ length-append before.list _ in
+    let vars : new.vars ≡ old.vars + 1 = ap (λ (a : Assumed). a.vars) t in
     record {
-      trail = t ∙ ap (λ (a : Assumed). record a { vars = a.vars + 1 }) h.trail;
-      within = subst (AreLiveWithin (s.vars + 1)) (sym g) (All-append (IsLiveWithin (s.vars + 1)) s.given _ (live-more s.vars (s.vars + 1) s.given (omega arith) h.within) (by_definition-all (IsWithin (s.vars + 1)) (definition_clauses (next_variable s) x high low) added));
-      defined = omega (arith, count', h.defined);
-      room = omega (arith, count', h.room);
+      empty = ap (λ (a : Assumed). a.lits) t ∙ h.empty;
+      trail = omega (arith, vars, v, h.trail);
+      within = subst (AreLiveWithin variable) (sym g) (All-append (IsLiveWithin variable) s.given _ (live-more s.vars variable s.given (omega (arith, v)) h.within) (by_definition-all (IsWithin variable) (definition_clauses (record { variable = variable; positive = true }) x high low) added));
+      count = omega (arith, base, longer, v, h.count);
     }
+
+-- the definitions are looked up behind as many variables as have none
+pub root-looked-up : {E : Type 0} (s : ProofState) (before : Defined) (lits : List Literal) (bound root : ℕ) (r : Result Bool E) → before.base + length before.list ≡ s.vars → IfOk r (λ found. found ≡ is_root (looked_up before) lits bound root) → IfOk r (λ found. found ≡ is_root (definition_of (record s { definitions = before.list })) lits bound root)
+root-looked-up s before lits bound root r e h =
+    let base : before.base ≡ s.vars - length before.list = omega (arith, e) in
+    subst (λ (b : ℕ). IfOk r (λ found. found ≡ is_root (defined_among before.list b) lits bound root)) base h

@@ -4,6 +4,7 @@ pub mod Steps
 pub mod Proofs
 pub mod Marks
 pub mod Demands
+pub mod Sharing
 pub mod Feeding
 pub mod Restoring
 pub mod Checking

@@ -1,5 +1,5 @@
 -- The state of a proof: what its lines so far have given.
-use Rattle.std.specs.Prelude.{ℕ, ◌≡◌, ◌≤◌, ◌+◌, ◌^◌, ◌-◌, ◌==◌, nat_lt, Bool, false, if◌then◌else◌, List, [], length, map, Option, Some, None, option_and_then, slice_get, IfSome}
+use Rattle.std.specs.Prelude.{ℕ, ◌≡◌, ◌≤◌, ◌+◌, ◌-◌, ◌==◌, nat_lt, Bool, false, if◌then◌else◌, List, [], length, map, Option, Some, None, option_and_then, slice_get, IfSome}
 use Rattle.std.specs.List.{AllByRecursion}
 use Rattle.kn_logic.specs.Constraints.{Bounded, IsWithin}
 use Rattle.kn_logic.specs.Formulas.{Problem}
@@ -30,6 +30,14 @@ start f = record { vars = f.vars; definitions = []; given = map from_file f.cons
 abbrev pub defined_among : List Definition → ℕ → ℕ → Option Definition
 defined_among definitions base variable = if nat_lt base variable then slice_get definitions (variable - base - 1) else None
 
+-- the definitions alone, of the variables behind the first ones, which are `base` many
+pub record Defined : Type 0 where
+  pub base : ℕ
+  pub list : List Definition
+
+abbrev pub looked_up : Defined → ℕ → Option Definition
+looked_up d variable = defined_among d.list d.base variable
+
 abbrev pub definition_of : ProofState → ℕ → Option Definition
 definition_of s variable = defined_among s.definitions (s.vars - length s.definitions) variable
 
@@ -49,9 +57,9 @@ abbrev pub AreLiveWithin : ℕ → List Given → Type 0
 AreLiveWithin vars given = AllByRecursion (IsLiveWithin vars) given
 
 -- What a checker keeps between two lines: its constraints are over its variables, no hint is run, and each
--- variable behind those of the file, which are at most 2^32, has its definition.
-pub record IsReady (vars : ℕ) (definitions : List Definition) (given : List Given) (assumed : Assumed) : Type 0 where
-  pub trail : assumed ≡ record { vars = vars; lits = [] }
+-- variable behind those of the file has its definition.
+pub record IsReady (vars : ℕ) (defined : Defined) (given : List Given) (assumed : Assumed) : Type 0 where
+  pub empty : assumed.lits ≡ []
+  pub trail : vars ≤ assumed.vars
   pub within : AreLiveWithin vars given
-  pub defined : length definitions ≤ vars
-  pub room : vars ≤ 2 ^ 32 + length definitions
+  pub count : defined.base + length defined.list ≡ vars

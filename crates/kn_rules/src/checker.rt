@@ -8,6 +8,7 @@ ghost use Rattle.kn_rules.specs.Feeding.{Feeds};
 ghost use Rattle.kn_rules.specs.declared.checker.FeedError.TheVariants.{Memory};
 
 use crate::clauses::{constraint_of, definition_given, is_unit};
+use crate::definitions::Definitions;
 use crate::deletion::{discard, put_back, take_out};
 use crate::grid::is_root;
 use crate::hints::follows;
@@ -48,11 +49,11 @@ impl<T: Drop> From<AllocFailed<T>> for FeedError {
 }
 
 /// A checker of a proof, one line after another, behind the header. A line costs as much as itself and
-/// the constraints of its hints; a root also costs what its grid has of nodes.
+/// the constraints of its hints; a klause with a root as much as its grid has nodes.
 #[derive(Debug, Drop)]
 pub struct Checker {
     vars: u64,
-    definitions: Vec<Definition>,
+    definitions: Definitions,
     given: Vec<Given>,
     refuted: bool,
     trail: Trail,
@@ -63,9 +64,9 @@ impl Model for Checker {
 
     ghost Value = { ProofState };
 
-    ghost view = { λ c. record { vars = c.vars; definitions = c.definitions.items; given = c.given.items; refuted = c.refuted } };
+    ghost view = { λ c. record { vars = c.vars; definitions = c.definitions.list; given = c.given.items; refuted = c.refuted } };
 
-    ghost invariant = { λ c. IsReady c.vars c.definitions.items c.given.items c.trail };
+    ghost invariant = { λ c. IsReady c.vars c.definitions c.given.items c.trail };
 }
 
 impl Checker {
@@ -77,7 +78,7 @@ impl Checker {
         let vars = f.vars();
         Ok(Checker {
             vars,
-            definitions: Vec::new(alloc),
+            definitions: Definitions::new(alloc, vars),
             given: file_given(alloc, f.constraints())?,
             refuted: false,
             trail: Trail::new(alloc, vars)?,
@@ -228,19 +229,16 @@ impl Checker {
         ensures ok { OnOk result (define self.old x high low ≡ Ok self.new) }
         ensures err { OnErr result (self.new ≡ self.old) }
     {
+        let variable = self.definitions.next();
         let d = Definition { test: x, high, low };
-        let variable = Lit::new(self.vars + 1, true);
-        let mut given = definition_given(*self.given.allocator(), variable, &d)?;
-        self.definitions.reserve(1)?;
+        let mut given = definition_given(*self.given.allocator(), Lit::new(variable, true), &d)?;
         self.given.reserve(given.len())?;
         self.trail.grow()?;
-        let Ok(()) = self.definitions.push(d) else {
-            unreachable!()
-        };
+        self.definitions.push(d)?;
         let Ok(()) = self.given.append(&mut given) else {
             unreachable!()
         };
-        self.vars += 1;
+        self.vars = variable;
         Ok(())
     }
 
@@ -326,9 +324,8 @@ impl Checker {
     fn is_root(&self, lits: &[Lit], bound: u64, root: u64) -> Result<bool, NoMemory>
         ensures { IfOk result (λ yes. yes ≡ is_root (definition_of self.now) lits.now bound root) }
     {
-        let base = self.vars - self.definitions.len() as u64;
         let alloc = *self.given.allocator();
-        is_root(alloc, &self.definitions, base, lits, bound, root)
+        is_root(alloc, &self.definitions, lits, bound, root)
     }
 
     /// Deletes ids, each of which is live when its turn comes.

@@ -1,11 +1,10 @@
 ghost use Rattle.std.specs.Prelude.{◌≡◌, ◌≤◌, ◌<◌, ◌^◌, ◌-◌, ◌&&◌, ◌∷◌, ℕ, List, Option, IfOk, length, option_copied, if◌then◌else◌, false};
 ghost use Rattle.kn_logic.specs.Literals.{Literal, is_same};
-ghost use Rattle.kn_rules.specs.declared.definition.Definition.{Definition};
-ghost use Rattle.kn_rules.specs.States.{defined_among};
 ghost use Rattle.kn_rules.specs.Grids.{stands_for, is_root};
 ghost use Rattle.kn_rules.specs.Demands.{arm_of, all_stand, all_go_on};
+ghost use Rattle.kn_rules.specs.States.{looked_up};
 
-use crate::Definition;
+use crate::definitions::Definitions;
 use crate::demands::Demands;
 use kn_counter::{Cell, grid_cell};
 use kn_lines::Arm;
@@ -13,23 +12,22 @@ use kn_logic::{Lit, NoMemory};
 use std::alloc::Global;
 
 /// Whether a variable stands for the root of the grid of "at least `bound` of these literals". Goes down the
-/// grid a literal at a time, with what has to stand for the nodes of a level, each once. The definitions are
-/// those of the variables behind `base`, in their order.
+/// grid a literal at a time, with what has to stand for the nodes of a level, each once: this costs at most
+/// two look-ups for each literal and count, where the root stands.
 pub fn is_root(
     alloc: Global,
-    definitions: &[Definition],
-    base: u64,
+    definitions: &Definitions,
     lits: &[Lit],
     bound: u64,
     root: u64,
 ) -> Result<bool, NoMemory>
-    ensures { IfOk result (λ yes. yes ≡ is_root (defined_among definitions.now base) lits.now bound root) }
+    ensures { IfOk result (λ yes. yes ≡ is_root (looked_up definitions.now) lits.now bound root) }
 {
     let mut level = Demands::new(alloc);
-    level.add(root, bound)?;
+    level.add(definitions.first(root), bound)?;
     let mut left = lits;
     while let Some((lit, rest)) = left.split_first() {
-        match behind(alloc, definitions, base, *lit, rest, &level)? {
+        match behind(alloc, definitions, *lit, rest, &level)? {
             Some(next) => level = next,
             None => return Ok(false),
         }
@@ -41,20 +39,19 @@ pub fn is_root(
 /// What the demands of a literal's level ask of the level behind it; `None` only where one of them fails.
 fn behind(
     alloc: Global,
-    definitions: &[Definition],
-    base: u64,
+    definitions: &Definitions,
     lit: Lit,
     rest: &[Lit],
     level: &Demands,
 ) -> Result<Option<Demands>, NoMemory>
-    ensures { IfOk result (λ next. all_go_on (defined_among definitions.now base) rest.now next ≡ all_stand (defined_among definitions.now base) (lit ∷ rest.now) level.now) }
+    ensures { IfOk result (λ next. all_go_on (looked_up definitions.now) rest.now next ≡ all_stand (looked_up definitions.now) (lit ∷ rest.now) level.now) }
 {
     let mut next = Demands::new(alloc);
     for place in 0..level.len() {
         let Some((variable, count)) = level.get(place) else {
             unreachable!()
         };
-        if !add_arms(definitions, base, lit, rest, variable, count, &mut next)? {
+        if !add_arms(definitions, lit, rest, variable, count, &mut next)? {
             return Ok(None);
         }
     }
@@ -64,33 +61,33 @@ fn behind(
 /// Adds what it takes that the variable stands for the node of the literal with this count. `false` where
 /// it cannot.
 fn add_arms(
-    definitions: &[Definition],
-    base: u64,
+    definitions: &Definitions,
     lit: Lit,
     rest: &[Lit],
     variable: u64,
     count: u64,
     next: &mut Demands,
 ) -> Result<bool, NoMemory>
-    ensures { IfOk result (λ yes. (if yes then all_stand (defined_among definitions.now base) rest.now next.new else false) ≡ (all_stand (defined_among definitions.now base) rest.now next.old && stands_for (defined_among definitions.now base) (lit ∷ rest.now) count (arm_of variable))) }
+    ensures { IfOk result (λ yes. (if yes then all_stand (looked_up definitions.now) rest.now next.new else false) ≡ (all_stand (looked_up definitions.now) rest.now next.old && stands_for (looked_up definitions.now) (lit ∷ rest.now) count (arm_of variable))) }
 {
     let Cell::Inner = grid_cell(rest.len() as u64 + 1, 1, count) else {
         return Ok(false)
     };
-    let Some(d) = defined(definitions, base, variable) else {
+    let Some(d) = definitions.get(variable) else {
         return Ok(false)
     };
     if is_same(d.test, lit) {
-        return add_both(next, rest, &d.high, &d.low, count);
+        return add_both(definitions, next, rest, &d.high, &d.low, count);
     }
     if is_same(d.test, lit.negated()) {
-        return add_both(next, rest, &d.low, &d.high, count);
+        return add_both(definitions, next, rest, &d.low, &d.high, count);
     }
     Ok(false)
 }
 
 /// Adds that one arm stands for the node with one less, and the other for the node with the count.
 fn add_both(
+    definitions: &Definitions,
     next: &mut Demands,
     rest: &[Lit],
     less: &Arm,
@@ -98,17 +95,23 @@ fn add_both(
     count: u64,
 ) -> Result<bool, NoMemory>
     requires { 1 ≤ count }
-    ensures { IfOk result (λ yes. (definition : ℕ → Option Definition) → (if yes then all_stand definition rest.now next.new else false) ≡ (all_stand definition rest.now next.old && (stands_for definition rest.now (count - 1) less.now && stands_for definition rest.now count same.now))) }
+    ensures { IfOk result (λ yes. (if yes then all_stand (looked_up definitions.now) rest.now next.new else false) ≡ (all_stand (looked_up definitions.now) rest.now next.old && (stands_for (looked_up definitions.now) rest.now (count - 1) less.now && stands_for (looked_up definitions.now) rest.now count same.now))) }
 {
-    if !add(next, rest, less, count - 1)? {
+    if !add(definitions, next, rest, less, count - 1)? {
         return Ok(false);
     }
-    add(next, rest, same, count)
+    add(definitions, next, rest, same, count)
 }
 
 /// Adds that an arm stands for the node with this count; `false` where it cannot.
-fn add(next: &mut Demands, rest: &[Lit], arm: &Arm, count: u64) -> Result<bool, NoMemory>
-    ensures { IfOk result (λ yes. (definition : ℕ → Option Definition) → (if yes then all_stand definition rest.now next.new else false) ≡ (all_stand definition rest.now next.old && stands_for definition rest.now count arm.now)) }
+fn add(
+    definitions: &Definitions,
+    next: &mut Demands,
+    rest: &[Lit],
+    arm: &Arm,
+    count: u64,
+) -> Result<bool, NoMemory>
+    ensures { IfOk result (λ yes. (if yes then all_stand (looked_up definitions.now) rest.now next.new else false) ≡ (all_stand (looked_up definitions.now) rest.now next.old && stands_for (looked_up definitions.now) rest.now count arm.now)) }
 {
     match arm {
         Arm::True => Ok(matches!(grid_cell(rest.len() as u64, 1, count), Cell::True)),
@@ -117,20 +120,10 @@ fn add(next: &mut Demands, rest: &[Lit], arm: &Arm, count: u64) -> Result<bool, 
             if !lit.is_positive() {
                 return Ok(false);
             }
-            next.add(lit.var(), count)?;
+            next.add(definitions.first(lit.var()), count)?;
             Ok(true)
         }
     }
-}
-
-/// The definition of a variable; `None` exactly where it is not one of those behind `base` that are defined.
-fn defined(definitions: &[Definition], base: u64, variable: u64) -> Option<&Definition>
-    ensures { option_copied result ≡ defined_among definitions.now base variable }
-{
-    if variable <= base {
-        return None;
-    }
-    definitions.get((variable - base - 1) as usize)
 }
 
 /// Whether two literals are one.

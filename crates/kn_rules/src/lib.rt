@@ -9,6 +9,7 @@
 mod checker;
 mod clauses;
 mod definition;
+mod definitions;
 mod deletion;
 mod demands;
 mod given;

@@ -3,25 +3,25 @@ use Rattle.kn_rules.proofs.DemandLemmas.{is_true_cell, is_false_cell, not-true-c
 use Rattle.kn_rules.proofs.grid.add.Goals as goal
 
 pub returns-then-not-is_positive : goal.returns-then-not-is_positive
-returns-then-not-is_positive c = λ definition.
-    add-negated definition _ c.args.rest.now c.args.count _ c.in-Lit.lit c.in-Lit.is (sym c.is_positive.ensures ∙ c.if-not-is_positive.true)
+returns-then-not-is_positive c =
+    add-negated _ _ c.args.rest.now c.args.count _ c.in-Lit.lit c.in-Lit.is (sym c.is_positive.ensures ∙ c.if-not-is_positive.true)
 
 pub returns-in-True-matches : goal.returns-in-True-matches
-returns-in-True-matches c = λ definition.
-    add-true definition _ c.args.rest.now c.args.count _ c.grid_cell.result true c.in-True.is c.grid_cell.ensures (sym (ap is_true_cell c.in-True-matches.is))
+returns-in-True-matches c =
+    add-true _ _ c.args.rest.now c.args.count _ c.grid_cell.result true c.in-True.is c.grid_cell.ensures (sym (ap is_true_cell c.in-True-matches.is))
 
 pub returns-in_default : goal.returns-in_default
-returns-in_default c = λ definition.
-    add-true definition _ c.args.rest.now c.args.count _ c.grid_cell.result false c.in-True.is c.grid_cell.ensures (not-true-cell _ c.in_default.not-True)
+returns-in_default c =
+    add-true _ _ c.args.rest.now c.args.count _ c.grid_cell.result false c.in-True.is c.grid_cell.ensures (not-true-cell _ c.in_default.not-True)
 
 pub returns-in-False-matches : goal.returns-in-False-matches
-returns-in-False-matches c = λ definition.
-    add-false definition _ c.args.rest.now c.args.count _ c.grid_cell-in-False.result true c.in-False.is c.grid_cell-in-False.ensures (sym (ap is_false_cell c.in-False-matches.is))
+returns-in-False-matches c =
+    add-false _ _ c.args.rest.now c.args.count _ c.grid_cell-in-False.result true c.in-False.is c.grid_cell-in-False.ensures (sym (ap is_false_cell c.in-False-matches.is))
 
 pub returns-in_default-matches : goal.returns-in_default-matches
-returns-in_default-matches c = λ definition.
-    add-false definition _ c.args.rest.now c.args.count _ c.grid_cell-in-False.result false c.in-False.is c.grid_cell-in-False.ensures (not-false-cell _ c.in_default-matches.not-False)
+returns-in_default-matches c =
+    add-false _ _ c.args.rest.now c.args.count _ c.grid_cell-in-False.result false c.in-False.is c.grid_cell-in-False.ensures (not-false-cell _ c.in_default-matches.not-False)
 
 pub returns-in_ok-add-in-Lit : goal.returns-in_ok-add-in-Lit
-returns-in_ok-add-in-Lit c = λ definition.
-    add-variable definition _ _ c.args.rest.now c.args.count _ _ c.in-Lit.lit c.in-Lit.is (sym c.is_positive.ensures ∙ c.if-not-is_positive.false) c.var.ensures.value c.in_ok-add-in-Lit.ensures
+returns-in_ok-add-in-Lit c =
+    add-variable _ _ _ c.args.rest.now c.args.count _ _ _ c.in-Lit.lit c.in-Lit.is (sym c.is_positive.ensures ∙ c.if-not-is_positive.false) c.var.ensures.value (c.first.ensures c.args.rest.now c.args.count) c.in_ok-add-in-Lit.ensures

@@ -1,21 +1,19 @@
-use Rattle.std.proofs.Common.{◌≡◌, true, ap, ◌∙◌, rules}
-use Rattle.kn_rules.specs.Marks.{Assumed}
+use Rattle.std.proofs.Common.{◌≡◌, true, rules}
 use Rattle.kn_rules.specs.Steps.{are_known}
-use Rattle.kn_rules.proofs.Ready.{known-test, clause-within}
+use Rattle.kn_rules.proofs.Extending.{are_known-more, live-more}
+use Rattle.kn_rules.proofs.Ready.{known-test, clause-within, still-ready}
 use Rattle.kn_rules.proofs.checker.Checker.follow.Goals as goal
 
 pub follows-requires-clause-known : goal.follows-requires-clause-known
 follows-requires-clause-known c =
     let known : are_known c.self.inside.vars c.args.lits.now ≡ true = search rules in
-    let vars : c.self.inside.trail.vars ≡ c.self.inside.vars = ap (λ (x : Assumed). x.vars) c.self.invariant.trail in
-    rw vars (known-test _ _ known)
+    are_known-more _ _ c.args.lits.now c.self.invariant.trail (known-test _ _ known)
+
+pub follows-requires-clause-within : goal.follows-requires-clause-within
+follows-requires-clause-within c = rw c.deref-2.ensures.value (live-more _ _ c.self.inside.given.items c.self.invariant.trail c.self.invariant.within)
 
 pub invariant_of-self-2 : goal.invariant_of-self-2
 invariant_of-self-2 c =
     let known : are_known c.self.inside.vars c.args.lits.now ≡ true = search rules in
-    record {
-      trail = c.in_ok-follows.ensures.same ∙ c.self.invariant.trail;
-      defined = c.self.invariant.defined;
-      room = c.self.invariant.room;
-      within = rw (c.in_ok-push.ensures.items, c.in_ok-clause.ensures) (clause-within _ _ c.args.origin _ c.self.invariant.within (known-test _ _ known));
-    }
+    still-ready _ _ _ _ _ _ c.self.invariant c.in_ok-follows.ensures.same
+    (rw (c.in_ok-push.ensures.items, c.in_ok-clause.ensures) (clause-within _ _ c.args.origin _ c.self.invariant.within (known-test _ _ known)))

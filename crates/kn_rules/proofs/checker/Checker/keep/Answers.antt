@@ -6,11 +6,11 @@ use Rattle.kn_rules.proofs.checker.Checker.keep.Goals as goal
 
 pub invariant_of-self-2 : goal.invariant_of-self-2
 invariant_of-self-2 c =
-    let s : ProofState = record { vars = c.self.inside.vars; definitions = c.self.inside.definitions.items; given = c.self.inside.given.items; refuted = c.self.inside.refuted } in
+    let s : ProofState = record { vars = c.self.inside.vars; definitions = c.self.inside.definitions.list; given = c.self.inside.given.items; refuted = c.self.inside.refuted } in
     let ok : IsOk (follow s c.args.origin c.args.c.lits c.args.hints.now) = subst (λ (t : ProofState). IsOk (follow t c.args.origin c.args.c.lits c.args.hints.now)) (sym c.self.view_is) c.requires.steps in
     record {
+      empty = c.self.invariant.empty;
       trail = c.self.invariant.trail;
-      defined = c.self.invariant.defined;
-      room = c.self.invariant.room;
+      count = c.self.invariant.count;
       within = rw c.in_ok-push.ensures.items (kept-within s c.args.origin c.args.c c.args.hints.now c.self.invariant.within c.requires.formed ok);
     }

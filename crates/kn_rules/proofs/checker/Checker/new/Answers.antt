@@ -4,8 +4,8 @@ use Rattle.kn_rules.proofs.checker.Checker.new.Goals as goal
 
 pub invariant_of-result : goal.invariant_of-result
 invariant_of-result c = record {
-  trail = c.in_ok-new.ensures;
-  defined = search rules;
-  room = search rules;
+  empty = search rules;
+  trail = search rules;
+  count = search rules;
   within = rw (c.in_ok-file_given.ensures, c.vars-vars.ensures, c.constraints.ensures.value) (file-within _ _ c.constraints.ensures.formula);
 }
