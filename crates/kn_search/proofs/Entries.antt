@@ -40,9 +40,6 @@ set-names (x ∷ lits) l =
     ∙ ap (λ b. eqb x.variable l.variable || b) (set-names lits l)
 
 -- one literal more, or one less
-not_named : (x y : ℕ) (b : Bool) → (eqb x y || b) ≡ false → eqb y x ≡ false
-not_named x y b h = eqb-sym y x ∙ (or_parts (eqb x y) b h).0
-
 names-push : (lits : List Literal) (l : Literal) (v : ℕ) → names lits v ≡ false → eqb l.variable v ≡ false → names (lits ++ l ∷ []) v ≡ false
 names-push lits l v h d = list_any-append (λ x. eqb x.variable v) lits (l ∷ []) ∙ rw (h, d) refl
 
@@ -114,10 +111,6 @@ trail-popped old new entries e (Some l) t vars lits = trail-pop old new entries 
 -- back to before the last decision
 decision-push : (front : List Entry) (e : Entry) → has_decision (front ++ e ∷ []) ≡ (has_decision front || is_none e.reason)
 decision-push front e = list_any-append (λ x. is_none x.reason) front (e ∷ []) ∙ ap (λ b. has_decision front || b) (or-false (is_none e.reason))
-
-none-kept : (b : Bool) → ◌≡◌ {A = List Entry} (cond b [] []) []
-none-kept true = refl
-none-kept false = refl
 
 pub before-decided : (front : List Entry) (e : Entry) → is_none e.reason ≡ true → before_decision (front ++ e ∷ []) ≡ front
 before-decided [] e h = refl

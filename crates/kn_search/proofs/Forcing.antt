@@ -1,5 +1,5 @@
 -- What is seen of a constraint that forces a literal, and the trail with that literal.
-use Rattle.std.proofs.Common.{◌≡◌, ℕ, ◌<◌, ◌++◌, Bool, true, false, cond, List, [], ◌∷◌, Option, None, Some, refl, sym, ◌∙◌, subst, length-append, inl, inr, arith}
+use Rattle.std.proofs.Common.{◌≡◌, ℕ, ◌<◌, ◌++◌, Bool, true, false, cond, List, [], ◌∷◌, Option, None, Some, refl, sym, subst, length-append, inl, inr, arith}
 use Rattle.std.proofs.lemmas.Bool.{or_right, cases_Bool, not_from_false}
 use Rattle.std.proofs.lemmas.Option.{same_Some}
 use Rattle.kn_logic.specs.Literals.{Literal, negated, is_same, has, names, IsKnown, AreKnown}
@@ -62,12 +62,3 @@ pub forced-extends : (given : List Given) (old new : Trailed) (id : ℕ) (c : Bo
 forced-extends given old new id c l h live sees e =
     subst (Extends given old) (sym e)
     (extends-at given old (record { lit = l; reason = Some id }) (Follows-push given [] old.entries _ h (c, live, sees.2)))
-
--- two steps are one
-pub extends-join : (given : List Given) (old mid new : Trailed) → Extends given old mid → Extends given mid new → Extends given old new
-extends-join given old mid new a b = record {
-  vars = b.vars ∙ a.vars;
-  follows = b.follows;
-  longer = omega (arith, a.longer, b.longer);
-  same = λ e. b.same (omega (arith, e, a.longer, b.longer)) ∙ a.same (omega (arith, e, a.longer, b.longer));
-}
