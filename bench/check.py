@@ -126,7 +126,7 @@ def grid_seconds(files, folder, name):
 
 
 def grid_row(n, bound, copies, base, folder):
-    name = f"{n} literals, bound {bound}" + f", each {copies} times" * (copies > 1)
+    name = f"n = {n}, b = {bound}" + f", {copies} copies" * (copies > 1)
     lines, root = definitions(n, bound, copies)
     more = max(4, min(20_000, 4_000_000 // len(lines)))
 
@@ -134,20 +134,24 @@ def grid_row(n, bound, copies, base, folder):
         proof = grid_proof(n, bound, lines, root, unfoldings, klauses)
         return grid_seconds([("f.knf", grid_formula(n, bound)), ("p.kpf", proof)], folder, name)
 
+    def line(seconds):
+        each = (seconds - once) / more
+        return f"{each * 1e6:>9.1f} {each / n / bound * 1e9:>7.1f} {each / len(lines) * 1e9:>7.1f}"
+
     once, peak = took(1, 1)
-    unfolding = (took(1 + more, 1)[0] - once) / more
-    klause = (took(1, 1 + more)[0] - once) / more
-    each = (once - base) / len(lines)
-    print(f"{name:>38} {len(lines):>8} {each * 1e6:>8.2f} {peak / 1e6:>8.1f} {unfolding * 1e6:>9.1f}"
-          f" {unfolding / n / bound * 1e9:>8.1f} {klause * 1e6:>9.1f} {klause / n / bound * 1e9:>8.1f}", flush=True)
+    definition = (once - base) / len(lines)
+    print(f"{name:>28} {len(lines):>8} {definition * 1e6:>7.2f} {peak / 1e6:>8.1f} {line(took(1 + more, 1)[0])}"
+          f" {line(took(1, 1 + more)[0])}", flush=True)
 
 
 def grid_table(title, rows, folder):
-    """Rows of the number of literals, the bound, and how often each node is defined. Seconds are told of a
-    definition (in millionths), and of a `g` and a `k` line (in millionths, and in billionths by literals times bound)."""
-    print(f"\n{title}")
-    print(f"{'case':>38} {'d lines':>8} {'us a d':>8} {'peak MB':>8} {'us a g':>9} {'ns / nb':>8} {'us a k':>9} {'ns / nb':>8}")
+    """Rows of the number of literals n, the bound b, and how often each node is defined. Seconds are told of a
+    definition, and of a line `g` and a line `k`: in millionths, and in billionths by n * b and by the number of
+    definitions."""
     base = startup(folder)
+    print(f"\n{title} (start-up {base * 1000:.1f} ms)")
+    print(f"{'case':>28} {'d lines':>8} {'us a d':>7} {'peak MB':>8} {'us a g':>9} {'ns / nb':>7} {'ns / d':>7}"
+          f" {'us a k':>9} {'ns / nb':>7} {'ns / d':>7}")
     for n, bound, copies in rows:
         grid_row(n, bound, copies, base, folder)
 
@@ -175,12 +179,11 @@ def main():
             (f"{n} lemmas", [("f.cnf", short_lines(10)), ("p.kpf", deletions_proof(10, n))], words)
             for n in (10_000, 100_000, 1_000_000)
         ], folder, b"s VERIFIED")
-        grid_table("grids, the bound half the literals", [(n, n // 2, 1) for n in (16, 64, 256, 1_000)], folder)
-        grid_table("grids, bound 3", [(n, 3, 1) for n in (16, 64, 256, 1_000)], folder)
-        grid_table("grids, the bound near the literals", [(n, n - 2, 1) for n in (16, 64, 256, 1_000)], folder)
-        grid_table("grids with nodes defined more than once", [
-            (n, n // 2, copies) for n in (64, 256) for copies in (1, 2, 4, 8)
-        ], folder)
+        sizes = (16, 64, 256, 1_000)
+        grid_table("grids, the bound half the literals", [(n, n // 2, 1) for n in sizes], folder)
+        grid_table("grids, bound 3", [(n, 3, 1) for n in sizes], folder)
+        grid_table("grids, the bound near the literals", [(n, n - 2, 1) for n in sizes], folder)
+        grid_table("grids with nodes defined more than once", [(64, 32, copies) for copies in (1, 2, 8, 64)], folder)
 
 
 if __name__ == "__main__":

@@ -32,15 +32,15 @@ def problem_line(n, bound, count):
 
 
 def counts(n, bound, guarded):
-    """How many klauses make about each of the sizes; a clause takes about 22 bytes."""
-    bytes_each = clauses(n, bound) * (22 + guarded * 5)
+    """How many klauses make about each of the sizes; a clause takes about 18 bytes."""
+    bytes_each = clauses(n, bound) * (18 + guarded * 4)
     return sorted({max(1, size // bytes_each) for size in SIZES})
 
 
 def rows(n, bound, guarded):
     for count in counts(n, bound, guarded):
-        name = f"{count} of {n}, bound {bound}"
-        yield name, [("f.knf", klauses(n, bound, guarded, count))], ["convert", "f.knf"], problem_line(n, bound, count)
+        files = [("f.knf", klauses(n, bound, guarded, count))]
+        yield f"{count} klauses", files, ["convert", "f.knf"], problem_line(n, bound, count)
 
 
 def main():

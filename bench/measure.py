@@ -7,7 +7,8 @@ import subprocess
 import sys
 import tempfile
 
-PROGRAM = os.path.abspath(os.environ.get("KNF") or os.path.join(os.path.dirname(__file__), "..", "crates", "knf", "out", "knf"))
+BUILT = os.path.join(os.path.dirname(__file__), "..", "crates", "knf", "out", "knf")
+PROGRAM = os.path.abspath(os.environ.get("KNF", BUILT))
 
 
 def run(words, folder):

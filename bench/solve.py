@@ -1,7 +1,7 @@
 """Runs `knf solve` over small formulas and checks what it says: random clauses of three literals at the ratio
-where models become rare, pigeons in holes as clauses and as klauses, and random klauses with and without guards.
-Each model is evaluated here, on every constraint; each proof of an answer "unsatisfiable" is given to `knf
-check`; and the proof of any other answer may lack nothing but the clause without literals."""
+where models become rare and above it, pigeons in holes as clauses and as klauses, and random klauses with and
+without guards. Each model is evaluated here, on every constraint; each proof of an answer "unsatisfiable" is
+given to `knf check`; and the proof of any other answer may lack nothing but the clause without literals."""
 
 import os
 import random
@@ -132,14 +132,15 @@ def measure(name, formula, folder):
 
 
 def cases():
-    for vars in (20, 30, 40, 50, 60):
-        for seed in range(1, 5):
-            name = f"{vars} variables, {round(vars * 4.17)} clauses, {seed}"
-            yield name, random_clauses(vars, 4.17, seed)
+    for ratio, seeds in ((4.17, 4), (5, 2)):
+        for vars in (20, 30, 40, 50, 60):
+            for seed in range(1, seeds + 1):
+                name = f"{vars} variables, {round(vars * ratio)} clauses, {seed}"
+                yield name, random_clauses(vars, ratio, seed)
     for holes in range(2, 8):
         yield f"{holes + 1} pigeons in {holes} holes, clauses", pigeons(holes, False)
         yield f"{holes + 1} pigeons in {holes} holes, klauses", pigeons(holes, True)
-    for vars, count in ((9, 12), (9, 24), (15, 20), (15, 40), (30, 40), (30, 60)):
+    for vars, count in ((9, 12), (9, 36), (15, 20), (15, 60), (30, 60), (30, 100)):
         for seed in range(1, 5):
             yield f"{vars} variables, {count} constraints, {seed}", random_constraints(vars, count, seed)
 
