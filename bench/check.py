@@ -1,8 +1,11 @@
 """Measures `knf check` over proofs of growing size: chains of units, long clauses, many lines over many
 variables, deletions. A line should cost in proportion to its own length and that of its hints'
-constraints, so the seconds per byte should stay the same."""
+constraints, so the seconds per byte should stay the same. Grids: a line that looks at the grid of a klause
+should cost in proportion to its number of literals times its bound, however the arms are shared."""
 
-from measure import table, temporary
+import random
+
+from measure import expect, fastest, remove, startup, table, temporary, write
 
 
 def chain(n):
@@ -60,6 +63,99 @@ def deletions_proof(vars, lines):
     yield b"r 0 4 3 0\n"
 
 
+def klause_words(n, bound):
+    return b"k %d " % bound + b" ".join(b"%d" % i for i in range(1, n + 1)) + b" 0"
+
+
+def contrary(n, bound):
+    """So many literals are false that the klause "at least `bound` of 1 to n" cannot hold."""
+    return [b"-%d 0\n" % i for i in range(1, n - bound + 2)]
+
+
+def grid_formula(n, bound):
+    units = contrary(n, bound)
+    yield b"p knf %d %d\n" % (n, 1 + len(units))
+    yield klause_words(n, bound) + b"\n"
+    yield from units
+
+
+def definitions(n, bound, copies):
+    """The lines that define the nodes that the root (1, bound) leads to, from those of the last literal on, each
+    so many times. Where a node is there more than once, arms are drawn from all that stand for it, and half
+    of the lines test the literal's negation. Gives the lines and the variable of the root."""
+    draw = random.Random(n * bound)
+    lines, here, variable = [], {}, n
+    for i in range(n, 0, -1):
+        below, here = here, {}
+        for j in range(max(1, bound - i + 1), min(bound, n - i + 1) + 1):
+            here[j] = range(variable + 1, variable + 1 + copies)
+            variable += copies
+            for _ in range(copies):
+                arms = arm(draw, below, n - i, j - 1), arm(draw, below, n - i, j)
+                negative = copies > 1 and draw.random() < 0.5
+                lines.append(b"d -%d %s %s\n" % (i, *arms[::-1]) if negative else b"d %d %s %s\n" % (i, *arms))
+    return lines, here[bound][0]
+
+
+def arm(draw, below, left, j):
+    """What stands for "at least j of the literals that are left"."""
+    if j == 0:
+        return b"T"
+    return b"F" if j > left else b"%d" % draw.choice(below[j])
+
+
+def grid_proof(n, bound, lines, root, unfoldings, klauses):
+    """The root's unit clause by `g`, the klause again by `k`, each so many times, and the clause without literals
+    from the klause that `k` gave and its contrary."""
+    file = 1 + len(contrary(n, bound))
+    unit = file + 4 * len(lines) + 1
+    yield b"p kpf %d %d\n" % (n, file)
+    yield from lines
+    yield b"g 1 %d\n" % root * unfoldings
+    yield (klause_words(n, bound) + b" %d %d\n" % (root, unit)) * klauses
+    yield b"r 0 " + b" ".join(b"%d" % (i + 1) for i in range(1, file)) + b" %d 0\n" % (unit + unfoldings)
+
+
+def grid_seconds(files, folder, name):
+    """The seconds of a check that accepts, and its peak memory."""
+    write(files, folder)
+    status, text, seconds, peak = fastest(["check", "f.knf", "p.kpf"], folder, 3)
+    expect(name, status, text, b"s VERIFIED")
+    remove(files, folder)
+    return seconds, peak
+
+
+def grid_row(n, bound, copies, base, folder):
+    name = f"n = {n}, b = {bound}" + f", {copies} copies" * (copies > 1)
+    lines, root = definitions(n, bound, copies)
+    more = max(4, min(20_000, 4_000_000 // len(lines)))
+
+    def took(unfoldings, klauses):
+        proof = grid_proof(n, bound, lines, root, unfoldings, klauses)
+        return grid_seconds([("f.knf", grid_formula(n, bound)), ("p.kpf", proof)], folder, name)
+
+    def line(seconds):
+        each = (seconds - once) / more
+        return f"{each * 1e6:>9.1f} {each / n / bound * 1e9:>7.1f} {each / len(lines) * 1e9:>7.1f}"
+
+    once, peak = took(1, 1)
+    definition = (once - base) / len(lines)
+    print(f"{name:>28} {len(lines):>8} {definition * 1e6:>7.2f} {peak / 1e6:>8.1f} {line(took(1 + more, 1)[0])}"
+          f" {line(took(1, 1 + more)[0])}", flush=True)
+
+
+def grid_table(title, rows, folder):
+    """Rows of the number of literals n, the bound b, and how often each node is defined. Seconds are told of a
+    definition, and of a line `g` and a line `k`: in millionths, and in billionths by n * b and by the number of
+    definitions."""
+    base = startup(folder)
+    print(f"\n{title} (start-up {base * 1000:.1f} ms)")
+    print(f"{'case':>28} {'d lines':>8} {'us a d':>7} {'peak MB':>8} {'us a g':>9} {'ns / nb':>7} {'ns / d':>7}"
+          f" {'us a k':>9} {'ns / nb':>7} {'ns / d':>7}")
+    for n, bound, copies in rows:
+        grid_row(n, bound, copies, base, folder)
+
+
 def main():
     words = ["check", "f.cnf", "p.kpf"]
     with temporary() as folder:
@@ -83,6 +179,11 @@ def main():
             (f"{n} lemmas", [("f.cnf", short_lines(10)), ("p.kpf", deletions_proof(10, n))], words)
             for n in (10_000, 100_000, 1_000_000)
         ], folder, b"s VERIFIED")
+        sizes = (16, 64, 256, 1_000)
+        grid_table("grids, the bound half the literals", [(n, n // 2, 1) for n in sizes], folder)
+        grid_table("grids, bound 3", [(n, 3, 1) for n in sizes], folder)
+        grid_table("grids, the bound near the literals", [(n, n - 2, 1) for n in sizes], folder)
+        grid_table("grids with nodes defined more than once", [(64, 32, copies) for copies in (1, 2, 8, 64)], folder)
 
 
 if __name__ == "__main__":

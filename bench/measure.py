@@ -1,12 +1,14 @@
 """Runs the built program and measures it. Seconds are those of the processor, in the program and in the
-system for it, so that other work on the machine changes them little."""
+system for it, so that other work on the machine changes them little. The environment variable `KNF` names
+another program to measure."""
 
 import os
 import subprocess
 import sys
 import tempfile
 
-PROGRAM = os.path.join(os.path.dirname(__file__), "..", "crates", "knf", "out", "knf")
+BUILT = os.path.join(os.path.dirname(__file__), "..", "crates", "knf", "out", "knf")
+PROGRAM = os.path.abspath(os.environ.get("KNF", BUILT))
 
 
 def run(words, folder):
@@ -25,31 +27,63 @@ def startup(folder):
     return min(run([], folder)[2] for _ in range(5))
 
 
+def fastest(words, folder, tries):
+    """Of so many runs the one that took the fewest seconds."""
+    return min((run(words, folder) for _ in range(tries)), key=lambda t: t[2])
+
+
+def write(files, folder):
+    """Writes a list of (file name, text) and gives the number of bytes."""
+    size = 0
+    for file, text in files:
+        path = os.path.join(folder, file)
+        with open(path, "wb") as out:
+            for piece in text:
+                out.write(piece)
+        size += os.path.getsize(path)
+    return size
+
+
+def remove(files, folder):
+    for file, _ in files:
+        os.remove(os.path.join(folder, file))
+
+
 def table(title, rows, folder, want):
     """Measures rows of a name, a list of (file name, text) and words, and prints them with the ratios of
-    seconds per byte to the first row's."""
+    seconds per byte of these files to the first row's. Each output has to begin with `want`."""
+    tabulate(title, [(*row, want) for row in rows], folder, lambda read, text: read)
+
+
+def output_table(title, rows, folder):
+    """The same, of the bytes that are written. A row has its own beginning of the output at its end."""
+    tabulate(title, rows, folder, lambda read, text: len(text))
+
+
+def tabulate(title, rows, folder, counted):
+    """`counted` gives the bytes of a row from the size of its files and its output."""
     base = startup(folder)
     print(f"\n{title} (start-up {base * 1000:.1f} ms)")
     print(f"{'case':>28} {'bytes':>12} {'seconds':>9} {'MB/s':>8} {'peak MB':>8} {'per byte':>9}")
     first = None
-    for name, files, words in rows:
-        size = 0
-        for file, text in files:
-            path = os.path.join(folder, file)
-            with open(path, "wb") as out:
-                for piece in text:
-                    out.write(piece)
-            size += os.path.getsize(path)
-        tries = [run(words, folder) for _ in range(3 if size < 20_000_000 else 1)]
-        status, text, seconds, peak = min(tries, key=lambda t: t[2])
+    for name, files, words, want in rows:
+        read = write(files, folder)
+        status, text, seconds, peak = run(words, folder)
+        expect(name, status, text, want)
+        size = counted(read, text)
+        if size < 20_000_000:
+            seconds = min(seconds, fastest(words, folder, 2)[2])
         net = max(seconds - base, 1e-6)
         first = first or net / size
         ratio = net / size / first
-        print(f"{name:>28} {size:>12} {seconds:>9.3f} {size / net / 1e6:>8.1f} {peak / 1e6:>8.1f} {ratio:>9.2f}")
-        if not text.startswith(want):
-            sys.exit(f"{name}: status {status}, {text[:200]!r} in place of {want!r}")
-        for file, _ in files:
-            os.remove(os.path.join(folder, file))
+        print(f"{name:>28} {size:>12} {seconds:>9.3f} {size / net / 1e6:>8.1f} {peak / 1e6:>8.1f} {ratio:>9.2f}", flush=True)
+        remove(files, folder)
+
+
+def expect(name, status, text, want):
+    """Ends the script where the output does not begin with what is wanted."""
+    if not text.startswith(want):
+        sys.exit(f"{name}: status {status}, {text[:200]!r} in place of {want!r}")
 
 
 def temporary():
