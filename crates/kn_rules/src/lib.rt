@@ -1,8 +1,9 @@
 //! The checker of proofs, which is exact, and the law that an accepted proof leaves its formula without a
 //! model. `check` answers for a whole text; what makes proofs line by line keeps a `Checker` beside it, and
-//! reads off which ids are live. The definitions stand in `specs/`: what ids stand for (`States`), what a
-//! line asks of a state and makes of it (`Steps`), whole proofs and their first fault (`Proofs`).
-//! `Feeding` and `Checking` have the words of the contracts, `Marks` and `Restoring` what the code keeps.
+//! reads off which ids are live. The definitions stand in `specs/`: what ids stand for (`States`), which
+//! variables stand for the nodes of a count's grid (`Grids`), what a line asks of a state and makes of it
+//! (`Steps`), whole proofs and their first fault (`Proofs`). `Feeding` and `Checking` have the words of the
+//! contracts, `Marks`, `Restoring`, `Demands` and `Sharing` what the code keeps.
 #![tactic(auto)]
 
 mod checker;
