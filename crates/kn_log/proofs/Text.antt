@@ -5,7 +5,7 @@ use Rattle.kn_logic.specs.Formulas.{Problem}
 use Rattle.kn_text.specs.Lines.{Line as TextLine, line_text, IsPlainLine, IsContent, content_of, numbered}
 use Rattle.kn_text.proofs.Written.{content_of_lines}
 use Rattle.kn_lines.specs.declared.line.Line.{Line}
-use Rattle.kn_lines.specs.declared.line.Line.TheVariants.{Header, Lemma, Learned, Delete}
+use Rattle.kn_lines.specs.declared.line.Line.TheVariants.{Header, Define, Lemma, Learned, Klause, Unfold, Delete}
 use Rattle.kn_lines.specs.Lines.{line_words}
 use Rattle.kn_lines.proofs.Written.{written_words_spell, written_is_plain, written_is_content, spelled_is_in_range}
 use Rattle.kn_rules.specs.States.{ProofState, start}
@@ -47,8 +47,11 @@ written_proof f lines last v c s h e = (last, written_steps f lines last v c s h
 -- learned clauses are counted by their first word
 first_word : (line : Line) → begins_with_l (line_words line) ≡ is_learned line
 first_word (Header vars constraints) = refl
+first_word (Define x high low) = refl
 first_word (Lemma c hints) = refl
 first_word (Learned c hints) = refl
+first_word (Klause c root unit) = refl
+first_word (Unfold id root) = refl
 first_word (Delete ids) = refl
 
 learned_among_logged : (lines : List Line) (number : ℕ) → learned_among (numbered number (map line_words lines)) ≡ learned_in lines

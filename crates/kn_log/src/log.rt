@@ -2,15 +2,15 @@ ghost use Rattle.std.specs.Prelude.{◌≡◌, ◌≤◌, ◌<◌, ◌+◌, ◌^
 ghost use Rattle.kn_logic.specs.Constraints.{IsWithin};
 ghost use Rattle.kn_bytes.specs.Outside.{Rose};
 ghost use Rattle.kn_lines.specs.Lines.{IsWellFormed};
-ghost use Rattle.kn_lines.specs.declared.line.Line.TheVariants.{Lemma, Learned, Delete};
+ghost use Rattle.kn_lines.specs.declared.line.Line.TheVariants.{Define, Lemma, Learned, Klause, Unfold, Delete};
 ghost use Rattle.kn_rules.specs.States.{live_at};
 ghost use Rattle.kn_rules.specs.Steps.{step};
 ghost use Rattle.kn_log.specs.Logs.{Logs, Opens, IsReadable, header_of};
 
 use crate::LogError;
 use kn_bytes::{Sink, write_all};
-use kn_lines::{Ids, Line, push_line, write_line};
-use kn_logic::{Constraint, Formula};
+use kn_lines::{Arm, Ids, Line, push_line, write_line};
+use kn_logic::{Constraint, Formula, Lit};
 use kn_rules::Checker;
 use std::alloc::Global;
 use std::marker::Model;
@@ -58,6 +58,28 @@ impl Log {
         })
     }
 
+    /// Defines the next variable as "if x then high else low", and answers it; its clauses get the next four
+    /// ids. `Memory`: nothing happened. `Fault`: it is defined, but the sink got only a part of the line, and
+    /// the log takes no more.
+    pub fn define<S: Sink>(
+        &mut self,
+        x: Lit,
+        high: Arm,
+        low: Arm,
+        sink: &mut S,
+    ) -> Result<u64, LogError>
+        requires whole { self.old.failed ≡ false }
+        requires steps { IsOk (step self.old.state (Define x high low)) }
+        ensures logs { Logs (Define x high low) self.old self.new (S.written sink.old) (S.written sink.new) result }
+        ensures variable { IfOk result (λ v. v ≡ self.old.state.vars + 1) }
+        ensures spelled { IsReadable result (Define x high low) }
+        ensures later { S.faults sink.old ≤ S.faults sink.new }
+        ensures fault { IsErrOf result LogError.Fault → Rose (S.faults sink.old) (S.faults sink.new) }
+    {
+        self.add(Line::Define { x, high, low }, sink)?;
+        Ok(self.vars())
+    }
+
     /// Adds a lemma, which follows by these hints, and answers its id. `Memory`: nothing happened.
     /// `Fault`: the lemma has its id, but the sink got only a part of its line, and the log takes no more.
     pub fn lemma<S: Sink>(
@@ -98,6 +120,46 @@ impl Log {
     {
         let id = self.next_id();
         self.add(Line::Learned { clause, hints }, sink)?;
+        Ok(id)
+    }
+
+    /// Adds a klause, whose grid stands under the root, by the clause of the root alone that has the id
+    /// `unit`, and answers its id. `Memory` and `Fault` are as in `lemma`.
+    pub fn klause<S: Sink>(
+        &mut self,
+        klause: Constraint,
+        root: u64,
+        unit: u64,
+        sink: &mut S,
+    ) -> Result<u64, LogError>
+        requires whole { self.old.failed ≡ false }
+        requires formed { IsWellFormed (Klause klause root unit) }
+        requires steps { IsOk (step self.old.state (Klause klause root unit)) }
+        ensures logs { Logs (Klause klause root unit) self.old self.new (S.written sink.old) (S.written sink.new) result }
+        ensures id { IfOk result (λ id. id ≡ length self.old.state.given + 1) }
+        ensures spelled { IsReadable result (Klause klause root unit) }
+        ensures later { S.faults sink.old ≤ S.faults sink.new }
+        ensures fault { IsErrOf result LogError.Fault → Rose (S.faults sink.old) (S.faults sink.new) }
+    {
+        let id = self.next_id();
+        self.add(Line::Klause { klause, root, unit }, sink)?;
+        Ok(id)
+    }
+
+    /// Adds the clause of the root alone, by the klause of this id, whose grid stands under the root, and
+    /// answers the id of the clause. `Memory` and `Fault` are as in `lemma`.
+    pub fn unfold<S: Sink>(&mut self, klause: u64, root: u64, sink: &mut S) -> Result<u64, LogError>
+        requires whole { self.old.failed ≡ false }
+        requires formed { IsWellFormed (Unfold klause root) }
+        requires steps { IsOk (step self.old.state (Unfold klause root)) }
+        ensures logs { Logs (Unfold klause root) self.old self.new (S.written sink.old) (S.written sink.new) result }
+        ensures id { IfOk result (λ id. id ≡ length self.old.state.given + 1) }
+        ensures spelled { IsReadable result (Unfold klause root) }
+        ensures later { S.faults sink.old ≤ S.faults sink.new }
+        ensures fault { IsErrOf result LogError.Fault → Rose (S.faults sink.old) (S.faults sink.new) }
+    {
+        let id = self.next_id();
+        self.add(Line::Unfold { klause, root }, sink)?;
         Ok(id)
     }
 

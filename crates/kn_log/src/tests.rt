@@ -5,7 +5,7 @@ ghost use Rattle.kn_log.specs.Logs.{fresh};
 
 use super::*;
 use kn_bytes::MemSink;
-use kn_lines::Ids;
+use kn_lines::{Arm, Ids};
 use kn_logic::{Constraint, Formula, Lit, NoMemory};
 use std::alloc::Global;
 use std::test::Fail;
@@ -33,6 +33,16 @@ fn refute(alloc: Global, log: &mut Log, learned: bool, sink: &mut MemSink) -> Re
     }
 }
 
+// defines a variable as the first, unfolds the first clause to it, and counts it again
+fn count(alloc: Global, log: &mut Log, sink: &mut MemSink) -> Result<u64, LogError>
+    requires { log.old ≡ fresh (record { vars = 1; constraints = klause 1 (record { variable = 1; positive = true } ∷ []) ∷ klause 1 (record { variable = 1; positive = false } ∷ []) ∷ [] }) }
+{
+    let root = log.define(Lit::new(1, true), Arm::True, Arm::False, sink)?;
+    let unit = log.unfold(1, root, sink)?;
+    let klause = Constraint::new(1, Vec::from_slice(alloc, &[Lit::new(1, true)])?);
+    log.klause(klause, root, unit, sink)
+}
+
 // deletes the first id, if it is live
 fn forget(alloc: Global, log: &mut Log, sink: &mut MemSink) -> Result<(), LogError>
     requires { log.old.failed ≡ false }
@@ -58,6 +68,23 @@ fn a_proof_is_written(rt: HostRuntime) -> Result<(), Fail> {
     }
     assert!(rt; log.live(1).is_none() && log.live(3).is_some());
     assert_eq!(rt; sink.written(), b"p kpf 1 2\nr 0 1 2 0\nx 1 0\n".as_slice());
+    Ok(())
+}
+
+#[test]
+fn a_klause_is_counted(rt: HostRuntime) -> Result<(), Fail> {
+    let alloc = rt.alloc();
+    let f = contradiction(alloc)?;
+    let mut sink = MemSink::new(alloc, 99, 6, Vec::new(alloc))?;
+    let Ok(mut log) = Log::new(alloc, &f, &mut sink) else {
+        return Err("the header is written".into());
+    };
+    assert_eq!(rt; count(alloc, &mut log, &mut sink), Ok(8));
+    assert!(rt; log.next_id() == 9 && log.vars() == 2 && !log.refuted());
+    assert_eq!(rt;
+        sink.written(),
+        b"p kpf 1 2\nd 1 T F\ng 1 2\nk 1 1 0 2 7\n".as_slice()
+    );
     Ok(())
 }
 
