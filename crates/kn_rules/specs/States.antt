@@ -56,8 +56,8 @@ IsLiveWithin vars entry = IfSome entry.live (IsWithin vars)
 abbrev pub AreLiveWithin : ℕ → List Given → Type 0
 AreLiveWithin vars given = AllByRecursion (IsLiveWithin vars) given
 
--- What a checker keeps between two lines: its constraints are over its variables, no hint is run, and each
--- variable behind those of the file has its definition.
+-- What a checker keeps between two lines: its constraints are over its variables, no hint is run on a trail
+-- that is over these variables at least, and each variable behind those of the file has its definition.
 pub record IsReady (vars : ℕ) (defined : Defined) (given : List Given) (assumed : Assumed) : Type 0 where
   pub empty : assumed.lits ≡ []
   pub trail : vars ≤ assumed.vars

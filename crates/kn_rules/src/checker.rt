@@ -233,6 +233,7 @@ impl Checker {
         let d = Definition { test: x, high, low };
         let mut given = definition_given(*self.given.allocator(), Lit::new(variable, true), &d)?;
         self.given.reserve(given.len())?;
+        // the trail stays longer by one where memory is wanting below, which no line can see
         self.trail.grow()?;
         self.definitions.push(d)?;
         let Ok(()) = self.given.append(&mut given) else {

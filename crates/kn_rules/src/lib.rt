@@ -1,9 +1,10 @@
 //! The checker of proofs, which is exact, and the law that an accepted proof leaves its formula without a
 //! model. `check` answers for a whole text; what makes proofs line by line keeps a `Checker` beside it, and
 //! reads off which ids are live. A `Trail` is the list of literals that a run of hints takes to be true, of
-//! use to a search too. The definitions stand in `specs/`: what ids stand for (`States`), what a
-//! line asks of a state and makes of it (`Steps`), whole proofs and their first fault (`Proofs`).
-//! `Feeding` and `Checking` have the words of the contracts, `Marks` and `Restoring` what the code keeps.
+//! use to a search too. The definitions stand in `specs/`: what ids stand for (`States`), which variables
+//! stand for the nodes of a count's grid (`Grids`), what a line asks of a state and makes of it (`Steps`),
+//! whole proofs and their first fault (`Proofs`). `Feeding` and `Checking` have the words of the contracts,
+//! `Marks`, `Restoring`, `Demands` and `Sharing` what the code keeps.
 #![tactic(auto)]
 
 mod checker;
