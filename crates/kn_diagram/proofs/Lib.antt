@@ -5,3 +5,4 @@ pub mod NodeLemmas
 pub mod JoinLemmas
 pub mod ClauseLemmas
 pub mod WidthLemmas
+pub mod WayLemmas

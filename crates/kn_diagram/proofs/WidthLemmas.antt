@@ -7,22 +7,22 @@ use Rattle.kn_diagram.specs.Widths.{reaches_in, reaches, reached_below, width_at
 use Rattle.kn_diagram.proofs.RowLemmas.{row_in-older, row_in-newest, branches}
 use Rattle.kn_diagram.proofs.NodeLemmas.{depth_of-constant}
 
-reaches_in-older : (row : Row) (older : List Row) (from node : ℕ) → from < length older + 2 → reaches_in (row ∷ older) from node ≡ reaches_in older from node
+pub reaches_in-older : (row : Row) (older : List Row) (from node : ℕ) → from < length older + 2 → reaches_in (row ∷ older) from node ≡ reaches_in older from node
 reaches_in-older row older from node h =
     cond-false (from == length older + 2) ((from == node) || (reaches_in older row.high node || reaches_in older row.low node)) (reaches_in older from node)
     (ne_eqb from (length older + 2) (λ e. omega arith))
 
-reaches_in-newest : (row : Row) (older : List Row) (from node : ℕ) → from ≡ length older + 2
+pub reaches_in-newest : (row : Row) (older : List Row) (from node : ℕ) → from ≡ length older + 2
     → reaches_in (row ∷ older) from node ≡ ((from == node) || (reaches_in older row.high node || reaches_in older row.low node))
 reaches_in-newest row older from node e =
     cond-true (from == length older + 2) ((from == node) || (reaches_in older row.high node || reaches_in older row.low node)) (reaches_in older from node)
     (eq-eqb from (length older + 2) e)
 
-reaches_in-constant : (rows : List Row) (from node : ℕ) → from < 2 → reaches_in rows from node ≡ (from == node)
+pub reaches_in-constant : (rows : List Row) (from node : ℕ) → from < 2 → reaches_in rows from node ≡ (from == node)
 reaches_in-constant [] from node h = refl
 reaches_in-constant (row ∷ older) from node h = reaches_in-older row older from node (omega arith) ∙ reaches_in-constant older from node h
 
-reaches_in-branch : (bottom : ℕ) (rows : List Row) (from node : ℕ) → AreReduced bottom rows → 2 ≤ from → from < length rows + 2
+pub reaches_in-branch : (bottom : ℕ) (rows : List Row) (from node : ℕ) → AreReduced bottom rows → 2 ≤ from → from < length rows + 2
     → reaches_in rows from node ≡ ((from == node) || (reaches_in rows (row_in bottom rows from).high node || reaches_in rows (row_in bottom rows from).low node))
 reaches_in-branch bottom [] from node all two h = absurd (omega arith)
 reaches_in-branch bottom (row ∷ older) from node all two h =
@@ -46,7 +46,7 @@ reaches_in-branch bottom (row ∷ older) from node all two h =
         (reaches_in-older row older from node k ∙ below from two k
         ∙ (λ i. (from == node) || (sym (reaches_in-older row older r.high node (omega (arith, b.high))) i || sym (reaches_in-older row older r.low node (omega (arith, b.low))) i)))
 
-reaches_in-down : (bottom : ℕ) (rows : List Row) (from node : ℕ) → AreReduced bottom rows → from < length rows + 2 → reaches_in rows from node ≡ true → node ≤ from
+pub reaches_in-down : (bottom : ℕ) (rows : List Row) (from node : ℕ) → AreReduced bottom rows → from < length rows + 2 → reaches_in rows from node ≡ true → node ≤ from
 reaches_in-down bottom [] from node all h e = let s = eqb-true from node e in omega arith
 reaches_in-down bottom (row ∷ older) from node all h e =
     by (cases_eq from (length older + 2)) (λ n k r. reaches_in-down bottom older n node all.1 k r)
