@@ -6,3 +6,4 @@ pub mod JoinLemmas
 pub mod ClauseLemmas
 pub mod WidthLemmas
 pub mod WayLemmas
+pub mod WideLemmas
