@@ -134,11 +134,11 @@ down_in-leads bottom (row ∷ older) z node t all low h =
         let k : node < length older + 2 = omega arith in
         subst Goal (sym (down_in-older row older z node t k)) (leads-older bottom row older z node t (down_in older z node t) k (below node k))
 
--- Values that lead from one node to another of depth z, as do all that are like them from the one on.
+-- Values that lead from one node to another of depth z, as do all that are like them between the two.
 pub record WayTo (bottom : ℕ) (rows : List Row) (z from node : ℕ) : Type 0 where
   pub values : ℕ → Bool
   pub deeper : (row_in bottom rows from).depth ≤ z
-  pub leads : (s : ℕ → Bool) → ((k : ℕ) → (row_in bottom rows from).depth ≤ k → s k ≡ values k) → down_in rows z from s ≡ node
+  pub leads : (s : ℕ → Bool) → ((k : ℕ) → (row_in bottom rows from).depth ≤ k → k < z → s k ≡ values k) → down_in rows z from s ≡ node
 
 way-stays : (bottom : ℕ) (row : Row) (older : List Row) (z from : ℕ) → from ≡ length older + 2 → row.depth ≡ z → WayTo bottom (row ∷ older) z from from
 way-stays bottom row older z from e d = record {
@@ -153,7 +153,7 @@ way-older bottom row older z from node h w =
     record {
       values = w.values;
       deeper = subst (λ r. r.depth ≤ z) (sym own) w.deeper;
-      leads = λ s agree. down_in-older row older z from s h ∙ w.leads s (λ k a. agree k (subst (λ r. r.depth ≤ k) (sym own) a));
+      leads = λ s agree. down_in-older row older z from s h ∙ w.leads s (λ k a l. agree k (subst (λ r. r.depth ≤ k) (sym own) a) l);
     }
 
 way-high : (bottom : ℕ) (row : Row) (older : List Row) (z from node : ℕ) → from ≡ length older + 2 → row.depth < (row_in bottom older row.high).depth
@@ -165,9 +165,9 @@ way-high bottom row older z from node e above w =
       values = t;
       deeper = subst (λ r. r.depth ≤ z) (sym own) (omega (arith, above, w.deeper));
       leads = λ s agree.
-          let like : (k : ℕ) → row.depth ≤ k → s k ≡ t k = λ k a. agree k (subst (λ r. r.depth ≤ k) (sym own) a) in
-          down_in-high row older z from s e (omega (arith, above, w.deeper)) (like row.depth (omega arith) ∙ put-same w.values row.depth true)
-          ∙ w.leads s (λ k a. like k (omega (arith, above)) ∙ put-other w.values row.depth true k (λ x. omega (arith, above)));
+          let like : (k : ℕ) → row.depth ≤ k → k < z → s k ≡ t k = λ k a l. agree k (subst (λ r. r.depth ≤ k) (sym own) a) l in
+          down_in-high row older z from s e (omega (arith, above, w.deeper)) (like row.depth (omega arith) (omega (arith, above, w.deeper)) ∙ put-same w.values row.depth true)
+          ∙ w.leads s (λ k a l. like k (omega (arith, above)) l ∙ put-other w.values row.depth true k (λ x. omega (arith, above)));
     }
 
 way-low : (bottom : ℕ) (row : Row) (older : List Row) (z from node : ℕ) → from ≡ length older + 2 → row.depth < (row_in bottom older row.low).depth
@@ -179,9 +179,9 @@ way-low bottom row older z from node e above w =
       values = t;
       deeper = subst (λ r. r.depth ≤ z) (sym own) (omega (arith, above, w.deeper));
       leads = λ s agree.
-          let like : (k : ℕ) → row.depth ≤ k → s k ≡ t k = λ k a. agree k (subst (λ r. r.depth ≤ k) (sym own) a) in
-          down_in-low row older z from s e (omega (arith, above, w.deeper)) (like row.depth (omega arith) ∙ put-same w.values row.depth false)
-          ∙ w.leads s (λ k a. like k (omega (arith, above)) ∙ put-other w.values row.depth false k (λ x. omega (arith, above)));
+          let like : (k : ℕ) → row.depth ≤ k → k < z → s k ≡ t k = λ k a l. agree k (subst (λ r. r.depth ≤ k) (sym own) a) l in
+          down_in-low row older z from s e (omega (arith, above, w.deeper)) (like row.depth (omega arith) (omega (arith, above, w.deeper)) ∙ put-same w.values row.depth false)
+          ∙ w.leads s (λ k a l. like k (omega (arith, above)) l ∙ put-other w.values row.depth false k (λ x. omega (arith, above)));
     }
 
 -- a node that is reached has a way to it

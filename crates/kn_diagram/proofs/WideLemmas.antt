@@ -1,6 +1,9 @@
 -- A function is wide at a variable exactly where enough nodes of the variable are reached.
 use Rattle.std.proofs.Common.{ℕ, zero, suc, ◌≡◌, ◌+◌, ◌<◌, ◌≤◌, ◌==◌, ◌⊎◌, inl, inr, Bool, true, false, ◌&&◌, if◌then◌else◌, List, [], ◌∷◌, length, map, slice_index, slice_index_or, nat_lt, nat_eq, refl, sym, ap, subst, ◌∙◌, arith, true≢false}
 use Rattle.std.specs.List.{AllByRecursion, IsDistinct, list_any}
+use Rattle.std.proofs.lemmas.Cmp.{nat_eq_equiv}
+use Rattle.std.proofs.lemmas.Map.Made.{length-le_from_is_member}
+use Rattle.std.proofs.lemmas.List.{length-map}
 use Rattle.std.proofs.lemmas.Bool.{eqb-true, eqb-false, eq-eqb, ne_eqb, cond-true, cond-false, and_parts, or_cases, or_left, or_right, cases_eq, cases_lt, cases_Bool}
 use Rattle.kn_diagram.specs.Diagrams.{Row, Table, IsNode, row_in, value_in, function_of, depth_of, high_of, low_of, AreReduced, IsTable, depth_in, AgreeFrom}
 use Rattle.kn_diagram.specs.Widths.{reaches_in, reaches, reached_below, width_at}
@@ -164,3 +167,244 @@ node-depends d node variable ok h at within = by (nodes-differ d own.high own.lo
 
     by : Differ (function_of d own.high) (function_of d own.low) → DependsOn (function_of d node) variable
     by (v, x) = (v, λ e. x (sym (high v) ∙ e ∙ low v))
+
+-- the numbers below n that pass a test, the greatest first
+abbrev pub listed : (ℕ → Bool) → ℕ → List ℕ
+listed test zero = []
+listed test (suc n) = if test n then n ∷ listed test n else listed test n
+
+listed-only : (test : ℕ → Bool) (n q : ℕ) → list_any (nat_eq q) (listed test n) ≡ true → (q < n) × (test q ≡ true)
+listed-only test zero q h = absurd (true≢false (sym h))
+listed-only test (suc n) q h = by (test n) refl (listed-only test n q)
+  where
+    later : (q < n) × (test q ≡ true) → (q < suc n) × (test q ≡ true)
+    later (a, b) = (omega arith, b)
+
+    by : (b : Bool) → test n ≡ b → (list_any (nat_eq q) (listed test n) ≡ true → (q < n) × (test q ≡ true)) → (q < suc n) × (test q ≡ true)
+    by true t rest = which (or_cases (nat_eq q n) (list_any (nat_eq q) (listed test n)) (sym (ap (list_any (nat_eq q)) (cond-true (test n) (n ∷ listed test n) (listed test n) t)) ∙ h))
+      where
+        which : (nat_eq q n ≡ true) ⊎ (list_any (nat_eq q) (listed test n) ≡ true) → (q < suc n) × (test q ≡ true)
+        which (inl s) = let e = eqb-true q n s in (omega arith, ap test e ∙ t)
+        which (inr s) = later (rest s)
+    by false t rest = later (rest (sym (ap (list_any (nat_eq q)) (cond-false (test n) (n ∷ listed test n) (listed test n) t)) ∙ h))
+
+listed-has : (test : ℕ → Bool) (n q : ℕ) → q < n → test q ≡ true → list_any (nat_eq q) (listed test n) ≡ true
+listed-has test zero q l t = absurd (omega arith)
+listed-has test (suc n) q l t = by (cases_eq q n) (test n) refl (listed-has test n q)
+  where
+    by : ((q ≡ n) ⊎ (q ≡ n → ⊥)) → (b : Bool) → test n ≡ b → (q < n → test q ≡ true → list_any (nat_eq q) (listed test n) ≡ true) → list_any (nat_eq q) (listed test (suc n)) ≡ true
+    by (inl e) true s rest = ap (list_any (nat_eq q)) (cond-true (test n) (n ∷ listed test n) (listed test n) s) ∙ or_left (nat_eq q n) (list_any (nat_eq q) (listed test n)) (eq-eqb q n e)
+    by (inl e) false s rest = absurd (true≢false (sym t ∙ ap test e ∙ s))
+    by (inr x) true s rest = ap (list_any (nat_eq q)) (cond-true (test n) (n ∷ listed test n) (listed test n) s) ∙ or_right (nat_eq q n) (list_any (nat_eq q) (listed test n)) (rest (omega arith) t)
+    by (inr x) false s rest = ap (list_any (nat_eq q)) (cond-false (test n) (n ∷ listed test n) (listed test n) s) ∙ rest (omega arith) t
+
+-- whether a node is reached and is of the variable at this depth
+abbrev pub is_counted : Table → ℕ → ℕ → ℕ → Bool
+is_counted d from depth node = reaches d from node && (depth_of d node == depth)
+
+pub length-listed : (d : Table) (from depth n : ℕ) → length (listed (is_counted d from depth) n) ≡ reached_below d from depth n
+length-listed d from depth zero = refl
+length-listed d from depth (suc n) = by (is_counted d from depth n) (length-listed d from depth n)
+  where
+    by : (b : Bool) → length (listed (is_counted d from depth) n) ≡ reached_below d from depth n
+        → length (if b then n ∷ listed (is_counted d from depth) n else listed (is_counted d from depth) n) ≡ (if b then 1 else 0) + reached_below d from depth n
+    by true e = omega (arith, e)
+    by false e = omega (arith, e)
+
+-- A way that leads to a node of this variable.
+pub record Finds (d : Table) (from variable : ℕ) (way : List Bool) : Type 0 where
+  pub counted : is_counted d from (depth_in d.order variable) (down d from way) ≡ true
+  pub there : IsNode d (down d from way)
+  pub function : function_of d (down d from way) ≡ remaining d.order (function_of d from) way
+
+way-finds : (d : Table) (from variable : ℕ) (way : List Bool) → IsTable d → IsNode d from → depth_in d.order variable < length d.order
+    → length way ≡ depth_in d.order variable → DependsOn (remaining d.order (function_of d from) way) variable → Finds d from variable way
+way-finds d from variable way ok h within len depends =
+    let l = leads d from way ok h (omega arith) in
+    let same : function_of d (down d from way) ≡ remaining d.order (function_of d from) way = λ i v. l.function v i in
+    let high = depends-depth d (down d from way) variable ok l.there (subst (λ g. DependsOn g variable) (sym same) depends) in
+    record {
+      counted = both (reaches d from (down d from way)) (depth_of d (down d from way) == depth_in d.order variable) l.reached
+          (eq-eqb (depth_of d (down d from way)) (depth_in d.order variable) (omega (arith, l.depth, high)));
+      there = l.there;
+      function = same;
+    }
+  where
+    both : (a b : Bool) → a ≡ true → b ≡ true → (a && b) ≡ true
+    both true b x y = y
+    both false b x y = absurd (true≢false (sym x))
+
+all-find : (d : Table) (from variable : ℕ) (ways : List (List Bool)) → IsTable d → IsNode d from → depth_in d.order variable < length d.order
+    → AllByRecursion (λ way. length way ≡ depth_in d.order variable) ways → AllByRecursion (λ way. DependsOn (remaining d.order (function_of d from) way) variable) ways
+    → AllByRecursion (Finds d from variable) ways
+all-find d from variable [] ok h within lens depend = tt
+all-find d from variable (way ∷ ways) ok h within lens depend =
+    (way-finds d from variable way ok h within lens.0 depend.0, all-find d from variable ways ok h within lens.1 depend.1)
+
+-- ways that leave different functions lead to different nodes
+found-apart : (d : Table) (from variable : ℕ) (way : List Bool) (ways : List (List Bool)) → Finds d from variable way → AllByRecursion (Finds d from variable) ways
+    → AllByRecursion (Differ (remaining d.order (function_of d from) way)) (map (remaining d.order (function_of d from)) ways)
+    → AllByRecursion (λ y. nat_eq (down d from way) y ≡ false) (map (down d from) ways)
+found-apart d from variable way [] f fs x = tt
+found-apart d from variable way (other ∷ ways) f fs x =
+    (ne_eqb (down d from way) (down d from other) (λ e.
+    x.0.1 (λ i. (sym f.function ∙ ap (function_of d) e ∙ fs.0.function) i x.0.0)), found-apart d from variable way ways f fs.1 x.1)
+
+found-distinct : (d : Table) (from variable : ℕ) (ways : List (List Bool)) → AllByRecursion (Finds d from variable) ways
+    → AllDiffer (map (remaining d.order (function_of d from)) ways) → IsDistinct nat_eq (map (down d from) ways)
+unfolding IsDistinct
+found-distinct d from variable [] fs x = tt
+found-distinct d from variable (way ∷ ways) fs x = (found-apart d from variable way ways fs.0 fs.1 x.0, found-distinct d from variable ways fs.1 x.1)
+
+found-member : (d : Table) (from variable q : ℕ) (ways : List (List Bool)) → AllByRecursion (Finds d from variable) ways
+    → list_any (nat_eq q) (map (down d from) ways) ≡ true → IsNode d q × (is_counted d from (depth_in d.order variable) q ≡ true)
+found-member d from variable q [] fs h = absurd (true≢false (sym h))
+found-member d from variable q (way ∷ ways) fs h =
+    by (or_cases (nat_eq q (down d from way)) (list_any (nat_eq q) (map (down d from) ways)) h) (found-member d from variable q ways fs.1)
+  where
+    Has : Type 0
+    Has = IsNode d q × (is_counted d from (depth_in d.order variable) q ≡ true)
+
+    by : (nat_eq q (down d from way) ≡ true) ⊎ (list_any (nat_eq q) (map (down d from) ways) ≡ true) → (list_any (nat_eq q) (map (down d from) ways) ≡ true → Has) → Has
+    by (inl s) rest = let e = eqb-true q (down d from way) s in (omega (arith, fs.0.there), ap (is_counted d from (depth_in d.order variable)) e ∙ fs.0.counted)
+    by (inr s) rest = rest s
+
+-- where a function is wide, its node reaches as many nodes of the variable
+pub wide-width : (d : Table) (from variable : ℕ) → IsTable d → IsNode d from → IsWideAt d.order (function_of d from) variable
+    → 257 ≤ width_at d from (depth_in d.order variable)
+unfolding width_at
+wide-width d from variable ok h w =
+    let fs = all-find d from variable w.ways ok h w.there w.lengths w.depend in
+    let test = is_counted d from (depth_in d.order variable) in
+    let n = length d.rows + 2 in
+    let within = length-le_from_is_member nat_eq_equiv (map (down d from) w.ways) (listed test n) (found-distinct d from variable w.ways fs w.different)
+    (λ q m. let p = found-member d from variable q w.ways fs m in listed-has test n q p.0 p.1) in
+    omega (arith, within, length-map w.ways (down d from), w.count, length-listed d from (depth_in d.order variable) n)
+
+-- the first values, as a list
+abbrev pub way_of : ℕ → (ℕ → Bool) → List Bool
+way_of zero t = []
+way_of (suc n) t = t 0 ∷ way_of n (λ k. t (suc k))
+
+length-way_of : (n : ℕ) (t : ℕ → Bool) → length (way_of n t) ≡ n
+length-way_of zero t = refl
+length-way_of (suc n) t = omega (arith, length-way_of n (λ k. t (suc k)))
+
+way_of-at : (n : ℕ) (t : ℕ → Bool) (k : ℕ) → k < n → slice_index_or (way_of n t) k false ≡ t k
+way_of-at zero t k h = absurd (omega arith)
+way_of-at (suc n) t zero h = refl
+way_of-at (suc n) t (suc k) h = way_of-at n (λ k. t (suc k)) k (omega arith)
+
+-- A way that is as long as this depth, to a node of this depth below a number.
+pub record Reaches (d : Table) (from depth below : ℕ) (way : List Bool) : Type 0 where
+  pub len : length way ≡ depth
+  pub at : depth_of d (down d from way) ≡ depth
+  pub less : down d from way < below
+
+-- a node that is reached has a way to it
+pub way-down : (d : Table) (from node : ℕ) → IsTable d → IsNode d from → reaches d from node ≡ true → (way : List Bool) × (length way ≡ depth_of d node) × (down d from way ≡ node)
+unfolding reaches depth_of
+way-down d from node ok h r =
+    let z = (row_in (length d.order) d.rows node).depth in
+    let w = way-to (length d.order) d.rows z from node ok.rows h r refl in
+    let way = way_of z w.values in
+    let len = length-way_of z w.values in
+    (way, len, ap (λ n. down_in d.rows n from (λ k. slice_index_or way k false)) len ∙ w.leads (λ k. slice_index_or way k false) (λ k a l. way_of-at z w.values k l))
+
+-- ways to different nodes of one depth, so many of them
+pub record Ways (d : Table) (from depth below count : ℕ) : Type 0 where
+  pub ways : List (List Bool)
+  pub count_is : length ways ≡ count
+  pub reach : AllByRecursion (Reaches d from depth below) ways
+  pub apart : IsDistinct nat_eq (map (down d from) ways)
+
+reach-later : (d : Table) (from depth below : ℕ) (ways : List (List Bool)) → AllByRecursion (Reaches d from depth below) ways → AllByRecursion (Reaches d from depth (suc below)) ways
+reach-later d from depth below [] h = tt
+reach-later d from depth below (way ∷ ways) h = (record { len = h.0.len; at = h.0.at; less = omega (arith, h.0.less) }, reach-later d from depth below ways h.1)
+
+reach-others : (d : Table) (from depth below node : ℕ) (ways : List (List Bool)) → below ≤ node → AllByRecursion (Reaches d from depth below) ways
+    → AllByRecursion (λ y. nat_eq node y ≡ false) (map (down d from) ways)
+reach-others d from depth below node [] le h = tt
+reach-others d from depth below node (way ∷ ways) le h = (ne_eqb node (down d from way) (λ e. omega (arith, h.0.less)), reach-others d from depth below node ways le h.1)
+
+ways-later : (d : Table) (from depth below count : ℕ) → Ways d from depth below count → Ways d from depth (suc below) count
+ways-later d from depth below count w = record { ways = w.ways; count_is = w.count_is; reach = reach-later d from depth below w.ways w.reach; apart = w.apart }
+
+ways-more : (d : Table) (from depth below count : ℕ) → IsTable d → IsNode d from → is_counted d from depth below ≡ true → Ways d from depth below count → Ways d from depth (suc below) (suc count)
+unfolding IsDistinct
+ways-more d from depth below count ok h c w =
+    let p = and_parts (reaches d from below) (depth_of d below == depth) c in
+    let at = eqb-true (depth_of d below) depth p.1 in
+    by at (way-down d from below ok h p.0)
+  where
+    by : depth_of d below ≡ depth → (way : List Bool) × (length way ≡ depth_of d below) × (down d from way ≡ below) → Ways d from depth (suc below) (suc count)
+    by at (way, len, to) = record {
+      ways = way ∷ w.ways;
+      count_is = omega (arith, w.count_is);
+      reach = (record { len = len ∙ at; at = ap (depth_of d) to ∙ at; less = omega (arith, to) }, reach-later d from depth below w.ways w.reach);
+      apart = (reach-others d from depth below (down d from way) w.ways (omega (arith, to)) w.reach, w.apart);
+    }
+
+pub ways-of : (d : Table) (from depth below count : ℕ) → IsTable d → IsNode d from → count ≤ reached_below d from depth below → Ways d from depth below count
+unfolding IsDistinct
+ways-of d from depth below zero ok h le = record { ways = []; count_is = refl; reach = tt; apart = tt }
+ways-of d from depth zero (suc count) ok h le = absurd (omega arith)
+ways-of d from depth (suc below) (suc count) ok h le =
+    by (is_counted d from depth below) refl le (ways-of d from depth below count ok h) (ways-of d from depth below (suc count) ok h)
+  where
+    by : (b : Bool) → is_counted d from depth below ≡ b → suc count ≤ (if b then 1 else 0) + reached_below d from depth below
+        → (count ≤ reached_below d from depth below → Ways d from depth below count) → (suc count ≤ reached_below d from depth below → Ways d from depth below (suc count))
+        → Ways d from depth (suc below) (suc count)
+    by true t l fewer same = ways-more d from depth below count ok h t (fewer (omega arith))
+    by false t l fewer same = ways-later d from depth below (suc count) (same (omega arith))
+
+reach-leads : (d : Table) (from depth below : ℕ) (way : List Bool) → IsTable d → IsNode d from → depth < length d.order → Reaches d from depth below way
+    → IsNode d (down d from way) × (function_of d (down d from way) ≡ remaining d.order (function_of d from) way)
+reach-leads d from depth below way ok h within r =
+    let l = leads d from way ok h (omega (arith, r.len)) in
+    (l.there, λ i v. l.function v i)
+
+reach-differ : (d : Table) (from depth below : ℕ) (way : List Bool) (ways : List (List Bool)) → IsTable d → IsNode d from → depth < length d.order
+    → Reaches d from depth below way → AllByRecursion (Reaches d from depth below) ways → AllByRecursion (λ y. nat_eq (down d from way) y ≡ false) (map (down d from) ways)
+    → AllByRecursion (Differ (remaining d.order (function_of d from) way)) (map (remaining d.order (function_of d from)) ways)
+reach-differ d from depth below way [] ok h within r rs x = tt
+reach-differ d from depth below way (other ∷ ways) ok h within r rs x =
+    let a = reach-leads d from depth below way ok h within r in
+    let b = reach-leads d from depth below other ok h within rs.0 in
+    let n = nodes-differ d (down d from way) (down d from other) ok a.0 b.0 (eqb-false (down d from way) (down d from other) x.0) in
+    let moved : Differ (remaining d.order (function_of d from) way) (function_of d (down d from other)) = subst (λ f. Differ f (function_of d (down d from other))) a.1 n in
+    (subst (λ g. Differ (remaining d.order (function_of d from) way) g) b.1 moved, reach-differ d from depth below way ways ok h within r rs.1 x.1)
+
+reach-all_differ : (d : Table) (from depth below : ℕ) (ways : List (List Bool)) → IsTable d → IsNode d from → depth < length d.order
+    → AllByRecursion (Reaches d from depth below) ways → IsDistinct nat_eq (map (down d from) ways) → AllDiffer (map (remaining d.order (function_of d from)) ways)
+unfolding IsDistinct
+reach-all_differ d from depth below [] ok h within rs x = tt
+reach-all_differ d from depth below (way ∷ ways) ok h within rs x =
+    (reach-differ d from depth below way ways ok h within rs.0 rs.1 x.0, reach-all_differ d from depth below ways ok h within rs.1 x.1)
+
+reach-depend : (d : Table) (from variable below : ℕ) (ways : List (List Bool)) → IsTable d → IsNode d from → depth_in d.order variable < length d.order
+    → AllByRecursion (Reaches d from (depth_in d.order variable) below) ways → AllByRecursion (λ way. DependsOn (remaining d.order (function_of d from) way) variable) ways
+reach-depend d from variable below [] ok h within rs = tt
+reach-depend d from variable below (way ∷ ways) ok h within rs =
+    let a = reach-leads d from (depth_in d.order variable) below way ok h within rs.0 in
+    (subst (λ g. DependsOn g variable) a.1 (node-depends d (down d from way) variable ok a.0 rs.0.at within), reach-depend d from variable below ways ok h within rs.1)
+
+reach-lengths : (d : Table) (from depth below : ℕ) (ways : List (List Bool)) → AllByRecursion (Reaches d from depth below) ways → AllByRecursion (λ way. length way ≡ depth) ways
+reach-lengths d from depth below [] rs = tt
+reach-lengths d from depth below (way ∷ ways) rs = (rs.0.len, reach-lengths d from depth below ways rs.1)
+
+-- where a node reaches so many nodes of a variable, its function is wide there
+pub width-wide : (d : Table) (from variable : ℕ) → IsTable d → IsNode d from → depth_in d.order variable < length d.order
+    → 257 ≤ width_at d from (depth_in d.order variable) → IsWideAt d.order (function_of d from) variable
+unfolding width_at
+width-wide d from variable ok h within many =
+    let below = length d.rows + 2 in
+    let w = ways-of d from (depth_in d.order variable) below 257 ok h many in
+    record {
+      there = within;
+      ways = w.ways;
+      count = w.count_is;
+      lengths = reach-lengths d from (depth_in d.order variable) below w.ways w.reach;
+      different = reach-all_differ d from (depth_in d.order variable) below w.ways ok h within w.reach w.apart;
+      depend = reach-depend d from variable below w.ways ok h within w.reach;
+    }
