@@ -7,7 +7,7 @@ use Rattle.std.proofs.lemmas.List.{length-map}
 use Rattle.std.proofs.lemmas.Bool.{eqb-true, eqb-false, eq-eqb, ne_eqb, cond-true, cond-false, and_parts, or_cases, or_left, or_right, cases_eq, cases_lt, cases_Bool}
 use Rattle.kn_diagram.specs.Diagrams.{Row, Table, IsNode, row_in, value_in, function_of, depth_of, high_of, low_of, AreReduced, IsTable, depth_in, AgreeFrom}
 use Rattle.kn_diagram.specs.Widths.{reaches_in, reaches, reached_below, width_at}
-use Rattle.kn_diagram.specs.Wide.{remaining, Differ, AllDiffer, DependsOn, IsWideAt}
+use Rattle.kn_diagram.specs.Wide.{remaining, Differ, AllDiffer, DependsOn, IsWideAt, IsWide}
 use Rattle.kn_diagram.proofs.RowLemmas.{Branches, branches, value_in-below, put, put-same, put-other, deep-constant, canonical_in}
 use Rattle.kn_diagram.proofs.NodeLemmas.{depth_in-slice_index, slice_index-depth_in, function_of-below, depth_of-branch, depth_of-within, depth_of-constant}
 use Rattle.kn_diagram.proofs.WayLemmas.{down_in, over, over-above, over-from, LeadsTo, down_in-leads, WayTo, way-to}
@@ -408,3 +408,13 @@ width-wide d from variable ok h within many =
       different = reach-all_differ d from (depth_in d.order variable) below w.ways ok h within w.reach w.apart;
       depend = reach-depend d from variable below w.ways ok h within w.reach;
     }
+
+-- the same, of the variable at a depth
+pub wide-at : (d : Table) (from depth level : ℕ) → IsTable d → IsNode d from → (depth < length d.order) × (256 < width_at d from depth) → level ≡ slice_index d.order depth
+    → IsWideAt d.order (function_of d from) level
+wide-at d from depth level ok h (within, many) is =
+    let at : depth_in d.order level ≡ depth = ap (depth_in d.order) is ∙ depth_in-slice_index d.order depth ok.order within in
+    width-wide d from level ok h (omega (arith, at)) (omega (arith, many, ap (width_at d from) at))
+
+pub not-wide : (d : Table) (from : ℕ) → IsTable d → IsNode d from → ((k : ℕ) → k < length d.order → width_at d from k ≤ 256) → IsWide d.order (function_of d from) → ⊥
+not-wide d from ok h few (variable, w) = absurd (omega (arith, wide-width d from variable ok h w, few (depth_in d.order variable) w.there))

@@ -1,10 +1,13 @@
-ghost use Rattle.std.specs.Prelude.{ℕ, ◌≡◌, ◌+◌, ◌<◌, ◌≤◌, ◌⊎◌, true, false, length, slice_index, slice_index_or, slice_set, if◌then◌else◌, IfOk};
+ghost use Rattle.std.specs.Prelude.{ℕ, ◌≡◌, ◌+◌, ◌<◌, ◌≤◌, ◌⊎◌, true, false, length, slice_index, slice_index_or, slice_set, if◌then◌else◌, IfOk, IfSome, IfNone};
 ghost use Rattle.kn_diagram.specs.Diagrams.{IsNode, high_of, low_of};
 ghost use Rattle.kn_diagram.specs.Widths.{reaches, width_at, IsWidest};
 
 use crate::{Diagrams, Node};
 use kn_logic::NoMemory;
 use std::alloc::Global;
+
+/// As many nodes of one variable as a function reaches that is not wide.
+const MOST: u64 = 256;
 
 /// The greatest number of different nodes of one variable that are reached from a node.
 pub(crate) fn widest(alloc: Global, d: &Diagrams, f: Node) -> Result<u64, NoMemory>
@@ -13,6 +16,16 @@ pub(crate) fn widest(alloc: Global, d: &Diagrams, f: Node) -> Result<u64, NoMemo
 {
     let widths = widths(alloc, d, f)?;
     Ok(greatest(&widths))
+}
+
+/// How far down the order the first variable stands of which more than 256 nodes are reached from a node.
+pub(crate) fn first_wide(alloc: Global, d: &Diagrams, f: Node) -> Result<Option<usize>, NoMemory>
+    requires { IsNode d.now f }
+    ensures wide { IfOk result (λ place. IfSome place (λ k. (k < length d.now.order) × (256 < width_at d.now f k))) }
+    ensures narrow { IfOk result (λ place. IfNone place ((k : ℕ) → k < length d.now.order → width_at d.now f k ≤ 256)) }
+{
+    let widths = widths(alloc, d, f)?;
+    Ok(first_above(&widths, MOST))
 }
 
 // How many nodes of each variable are reached, the top one first.
@@ -76,4 +89,17 @@ fn greatest(widths: &[u64]) -> u64
         }
     }
     best
+}
+
+// The place of the first number that is above a bound.
+fn first_above(widths: &[u64], bound: u64) -> Option<usize>
+    ensures some { IfSome result (λ k. (k < length widths.now) × (bound < slice_index widths.now k)) }
+    ensures none { IfNone result ((k : ℕ) → k < length widths.now → slice_index widths.now k ≤ bound) }
+{
+    for (place, width) in widths.iter().enumerate() {
+        if *width > bound {
+            return Some(place);
+        }
+    }
+    None
 }
