@@ -10,6 +10,7 @@ use Rattle.kn_diagram.specs.Widths.{reaches_in, reaches, reached_below, width_at
 use Rattle.kn_diagram.specs.Wide.{remaining, Differ, AllDiffer, DependsOn, IsWideAt, IsWide}
 use Rattle.kn_diagram.proofs.RowLemmas.{Branches, branches, value_in-below, put, put-same, put-other, deep-constant, canonical_in}
 use Rattle.kn_diagram.proofs.NodeLemmas.{depth_in-slice_index, slice_index-depth_in, function_of-below, depth_of-branch, depth_of-within, depth_of-constant}
+use Rattle.kn_diagram.proofs.CountLemmas.{listed, listed-has, is_counted, length-listed}
 use Rattle.kn_diagram.proofs.WayLemmas.{down_in, over, over-above, over-from, LeadsTo, down_in-leads, WayTo, way-to}
 
 -- A function hangs on the values below a number alone.
@@ -167,49 +168,6 @@ node-depends d node variable ok h at within = by (nodes-differ d own.high own.lo
 
     by : Differ (function_of d own.high) (function_of d own.low) → DependsOn (function_of d node) variable
     by (v, x) = (v, λ e. x (sym (high v) ∙ e ∙ low v))
-
--- the numbers below n that pass a test, the greatest first
-abbrev pub listed : (ℕ → Bool) → ℕ → List ℕ
-listed test zero = []
-listed test (suc n) = if test n then n ∷ listed test n else listed test n
-
-listed-only : (test : ℕ → Bool) (n q : ℕ) → list_any (nat_eq q) (listed test n) ≡ true → (q < n) × (test q ≡ true)
-listed-only test zero q h = absurd (true≢false (sym h))
-listed-only test (suc n) q h = by (test n) refl (listed-only test n q)
-  where
-    later : (q < n) × (test q ≡ true) → (q < suc n) × (test q ≡ true)
-    later (a, b) = (omega arith, b)
-
-    by : (b : Bool) → test n ≡ b → (list_any (nat_eq q) (listed test n) ≡ true → (q < n) × (test q ≡ true)) → (q < suc n) × (test q ≡ true)
-    by true t rest = which (or_cases (nat_eq q n) (list_any (nat_eq q) (listed test n)) (sym (ap (list_any (nat_eq q)) (cond-true (test n) (n ∷ listed test n) (listed test n) t)) ∙ h))
-      where
-        which : (nat_eq q n ≡ true) ⊎ (list_any (nat_eq q) (listed test n) ≡ true) → (q < suc n) × (test q ≡ true)
-        which (inl s) = let e = eqb-true q n s in (omega arith, ap test e ∙ t)
-        which (inr s) = later (rest s)
-    by false t rest = later (rest (sym (ap (list_any (nat_eq q)) (cond-false (test n) (n ∷ listed test n) (listed test n) t)) ∙ h))
-
-listed-has : (test : ℕ → Bool) (n q : ℕ) → q < n → test q ≡ true → list_any (nat_eq q) (listed test n) ≡ true
-listed-has test zero q l t = absurd (omega arith)
-listed-has test (suc n) q l t = by (cases_eq q n) (test n) refl (listed-has test n q)
-  where
-    by : ((q ≡ n) ⊎ (q ≡ n → ⊥)) → (b : Bool) → test n ≡ b → (q < n → test q ≡ true → list_any (nat_eq q) (listed test n) ≡ true) → list_any (nat_eq q) (listed test (suc n)) ≡ true
-    by (inl e) true s rest = ap (list_any (nat_eq q)) (cond-true (test n) (n ∷ listed test n) (listed test n) s) ∙ or_left (nat_eq q n) (list_any (nat_eq q) (listed test n)) (eq-eqb q n e)
-    by (inl e) false s rest = absurd (true≢false (sym t ∙ ap test e ∙ s))
-    by (inr x) true s rest = ap (list_any (nat_eq q)) (cond-true (test n) (n ∷ listed test n) (listed test n) s) ∙ or_right (nat_eq q n) (list_any (nat_eq q) (listed test n)) (rest (omega arith) t)
-    by (inr x) false s rest = ap (list_any (nat_eq q)) (cond-false (test n) (n ∷ listed test n) (listed test n) s) ∙ rest (omega arith) t
-
--- whether a node is reached and is of the variable at this depth
-abbrev pub is_counted : Table → ℕ → ℕ → ℕ → Bool
-is_counted d from depth node = reaches d from node && (depth_of d node == depth)
-
-pub length-listed : (d : Table) (from depth n : ℕ) → length (listed (is_counted d from depth) n) ≡ reached_below d from depth n
-length-listed d from depth zero = refl
-length-listed d from depth (suc n) = by (is_counted d from depth n) (length-listed d from depth n)
-  where
-    by : (b : Bool) → length (listed (is_counted d from depth) n) ≡ reached_below d from depth n
-        → length (if b then n ∷ listed (is_counted d from depth) n else listed (is_counted d from depth) n) ≡ (if b then 1 else 0) + reached_below d from depth n
-    by true e = omega (arith, e)
-    by false e = omega (arith, e)
 
 -- A way that leads to a node of this variable.
 pub record Finds (d : Table) (from variable : ℕ) (way : List Bool) : Type 0 where

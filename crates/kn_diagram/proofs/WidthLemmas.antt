@@ -89,12 +89,12 @@ pub older-high : (d : Table) (node : ℕ) → IsTable d → IsNode d node → 2 
 unfolding high_of low_of
 older-high d node ok h two = let b = branches (length d.order) d.rows node ok.rows two h in (b.high, b.low)
 
-by-high : (d : Table) (from node : ℕ) → IsTable d → IsNode d from → 2 ≤ from → reaches d (high_of d from) node ≡ true → reaches d from node ≡ true
+pub by-high : (d : Table) (from node : ℕ) → IsTable d → IsNode d from → 2 ≤ from → reaches d (high_of d from) node ≡ true → reaches d from node ≡ true
 by-high d from node ok h two e =
     reaches-branch d from node ok h two
     ∙ or_right (from == node) (reaches d (high_of d from) node || reaches d (low_of d from) node) (or_left (reaches d (high_of d from) node) (reaches d (low_of d from) node) e)
 
-by-low : (d : Table) (from node : ℕ) → IsTable d → IsNode d from → 2 ≤ from → reaches d (low_of d from) node ≡ true → reaches d from node ≡ true
+pub by-low : (d : Table) (from node : ℕ) → IsTable d → IsNode d from → 2 ≤ from → reaches d (low_of d from) node ≡ true → reaches d from node ≡ true
 by-low d from node ok h two e =
     reaches-branch d from node ok h two
     ∙ or_right (from == node) (reaches d (high_of d from) node || reaches d (low_of d from) node) (or_right (reaches d (high_of d from) node) (reaches d (low_of d from) node) e)

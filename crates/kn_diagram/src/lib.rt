@@ -11,6 +11,7 @@ mod error;
 mod joint;
 mod memo;
 mod node;
+mod node_set;
 mod rows;
 #[cfg(test)]
 mod tests;

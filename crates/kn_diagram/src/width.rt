@@ -1,7 +1,10 @@
-ghost use Rattle.std.specs.Prelude.{ℕ, ◌≡◌, ◌+◌, ◌<◌, ◌≤◌, ◌⊎◌, true, false, length, slice_index, slice_index_or, slice_set, if◌then◌else◌, IfOk, IfSome, IfNone};
-ghost use Rattle.kn_diagram.specs.Diagrams.{IsNode, high_of, low_of};
-ghost use Rattle.kn_diagram.specs.Widths.{reaches, width_at, IsWidest};
+ghost use Rattle.std.specs.Prelude.{ℕ, ◌≡◌, ◌+◌, ◌^◌, ◌<◌, ◌≤◌, ◌==◌, ◌⊎◌, All, length, slice_index, nat_eq, nat_lt, if◌then◌else◌, OnOk, IfOk, IfSome, IfNone};
+ghost use Rattle.std.specs.Set.{is_member};
+ghost use Rattle.indexmap.specs.IndexSet.{insert_key};
+ghost use Rattle.kn_diagram.specs.Diagrams.{IsNode, IsTable, depth_of, high_of, low_of};
+ghost use Rattle.kn_diagram.specs.Widths.{reaches, of_depth, width_at, IsWidest};
 
+use crate::node_set::NodeSet;
 use crate::{Diagrams, Node};
 use kn_logic::NoMemory;
 use std::alloc::Global;
@@ -34,48 +37,64 @@ fn widths(alloc: Global, d: &Diagrams, f: Node) -> Result<Vec<u64>, NoMemory>
     ensures len { IfOk result (λ ws. length ws.items ≡ length d.now.order) }
     ensures widths { IfOk result (λ ws. (k : ℕ) → k < length d.now.order → slice_index ws.items k ≡ width_at d.now f k) }
 {
-    let marks = reached(alloc, d, f)?;
+    let set = reached(alloc, d, f)?;
+    by_depth(alloc, d, set.numbers())
+}
+
+// How many of these nodes each variable has, the top one first.
+fn by_depth(alloc: Global, d: &Diagrams, numbers: &[usize]) -> Result<Vec<u64>, NoMemory>
+    requires { All (IsNode d.now) numbers.now }
+    ensures len { IfOk result (λ ws. length ws.items ≡ length d.now.order) }
+    ensures widths { IfOk result (λ ws. (k : ℕ) → k < length d.now.order → slice_index ws.items k ≡ of_depth d.now k numbers.now) }
+{
     let mut widths = vec![in alloc; 0; d.height()]?;
-    for number in 2..marks.len() {
-        if marks[number] {
-            let depth = d.depth(Node::new(number));
-            widths[depth] += 1;
-        }
+    for number in numbers {
+        count(d, &mut widths, Node::new(*number));
     }
     Ok(widths)
 }
 
-// The nodes that are reached, by their numbers.
-fn reached(alloc: Global, d: &Diagrams, f: Node) -> Result<Vec<bool>, NoMemory>
-    requires { IsNode d.now f }
-    ensures len { IfOk result (λ marks. length marks.items ≡ f + 1) }
-    ensures marks { IfOk result (λ marks. (node : ℕ) → slice_index_or marks.items node false ≡ reaches d.now f node) }
+// Counts a node at its depth. A constant has no variable, and is not counted.
+fn count(d: &Diagrams, widths: &mut [u64], node: Node)
+    requires there { IsNode d.now node }
+    requires len { length widths.old ≡ length d.now.order }
+    requires small { (k : ℕ) → k < length widths.old → slice_index widths.old k < 2 ^ 63 }
+    ensures len { length widths.new ≡ length widths.old }
+    ensures widths { (k : ℕ) → k < length d.now.order → slice_index widths.new k ≡ (if depth_of d.now node == k then 1 else 0) + slice_index widths.old k }
 {
-    let mut number = f.number();
-    let mut marks = vec![in alloc; false; d.count_to(f)]?;
-    marks[number] = true;
-    while number >= 2 {
-        pass_on(d, &mut marks, number);
-        number -= 1;
+    if node.number() >= 2 {
+        let depth = d.depth(node);
+        widths[depth] += 1;
     }
-    Ok(marks)
 }
 
-// Marks the high and the low node of a node that is marked.
-fn pass_on(d: &Diagrams, marks: &mut Vec<bool>, number: usize)
-    requires first { 2 ≤ number }
-    requires there { IsNode d.now number }
-    requires within { number < length marks.old.items }
-    ensures { marks.new.items ≡ (if slice_index_or marks.old.items number false then slice_set (slice_set marks.old.items (high_of d.now number) true) (low_of d.now number) true else marks.old.items) }
+// The nodes that are reached: those below a node of the set join it, until each has had its turn.
+fn reached(alloc: Global, d: &Diagrams, f: Node) -> Result<NodeSet, NoMemory>
+    requires { IsNode d.now f }
+    ensures reached { IfOk result (λ set. (node : ℕ) → is_member nat_eq set node ≡ reaches d.now f node) }
+    ensures table { OnOk result (IsTable d.now) }
 {
-    if !marks[number] {
-        return;
+    let mut set = NodeSet::new(alloc);
+    set.insert(f)?;
+    for place in 0..d.count_to(f) {
+        let Some(node) = set.get(place) else {
+            return Ok(set);
+        };
+        insert_below(d, &mut set, node)?;
     }
-    let Some((_, high, low)) = d.parts(Node::new(number)) else {
-        unreachable!()
-    };
-    marks[high.number()] = true;
-    marks[low.number()] = true;
+    Ok(set)
+}
+
+// Adds the high and the low node of a node that is no constant.
+fn insert_below(d: &Diagrams, set: &mut NodeSet, node: Node) -> Result<(), NoMemory>
+    requires { IsNode d.now node }
+    ensures { OnOk result (set.new ≡ (if nat_lt node 2 then set.old else insert_key nat_eq (insert_key nat_eq set.old (high_of d.now node)) (low_of d.now node))) }
+{
+    if let Some((_, high, low)) = d.parts(node) {
+        set.insert(high)?;
+        set.insert(low)?;
+    }
+    Ok(())
 }
 
 fn greatest(widths: &[u64]) -> u64
