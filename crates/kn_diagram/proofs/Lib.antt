@@ -5,7 +5,7 @@ pub mod NodeLemmas
 pub mod JoinLemmas
 pub mod ClauseLemmas
 pub mod WidthLemmas
-pub mod ReachLemmas
 pub mod CountLemmas
+pub mod ReachLemmas
 pub mod WayLemmas
 pub mod WideLemmas

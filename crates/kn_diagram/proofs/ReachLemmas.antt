@@ -10,7 +10,8 @@ use Rattle.std.proofs.lemmas.Grind.{get_or_default_zero}
 use Rattle.std.proofs.lemmas.Bool.{eqb-true, eqb-false, eq-eqb, ne_eqb, cond-true, cond-false, or_cases, or_parts, or_left, or_right, cases_eq, cases_lt, cases_Bool, lt-ltb, le-ltb}
 use Rattle.indexmap.specs.IndexSet.{insert_key}
 use Rattle.kn_diagram.specs.Diagrams.{Table, IsNode, high_of, low_of, IsTable}
-use Rattle.kn_diagram.specs.Widths.{reaches}
+use Rattle.kn_diagram.specs.Widths.{reaches, of_depth, width_at}
+use Rattle.kn_diagram.proofs.CountLemmas.{of_depth-width}
 use Rattle.kn_diagram.proofs.WidthLemmas.{reaches-self, reaches-down, reaches-cases, reaches-through, by-high, by-low, older-high}
 
 -- A list has grown at its end.
@@ -217,7 +218,7 @@ closed-below (suc n) d ns a q ok closed less m r =
     by (inr (two, inr s)) below = let o = older-high d a ok (closed a m).0 two in below (low_of d a) (omega (arith, o.1)) ((closed a m).1 two).1 s
 
 -- once all have had their turn, what was met is what is reached
-pub walk-last : (d : Table) (from place : ℕ) (ns : List ℕ) → IsTable d → IsNode d from → Walk d from place ns → length ns ≤ place
+walk-last : (d : Table) (from place : ℕ) (ns : List ℕ) → IsTable d → IsNode d from → Walk d from place ns → length ns ≤ place
     → (q : ℕ) → is_member nat_eq ns q ≡ reaches d from q
 walk-last d from place ns ok h w end q = by (cases_Bool (is_member nat_eq ns q)) (cases_Bool (reaches d from q))
   where
@@ -244,8 +245,13 @@ past-end ns i e = by (cases_lt i (length ns))
     by (inl l) = let s : Some (slice_index ns i) ≡ None = sym (slice_get-get_or ns i 0 l) ∙ e in absurd (cc)
     by (inr l) = l
 
--- what is reached are nodes
-pub all-nodes : (d : Table) (from : ℕ) (ns : List ℕ) → IsTable d → IsNode d from → ((q : ℕ) → is_member nat_eq ns q ≡ reaches d from q) → All (IsNode d) ns
-all-nodes d from ns ok h same k default l =
-    let m : reaches d from (slice_index ns k) ≡ true = sym (same (slice_index ns k)) ∙ place-member ns k l in
-    omega (arith, reaches-down d from (slice_index ns k) ok h m, get_or_default_zero ns k default l)
+-- all that was met are nodes
+pub walk-nodes : (d : Table) (from place : ℕ) (ns : List ℕ) → IsTable d → IsNode d from → Walk d from place ns → All (IsNode d) ns
+walk-nodes d from place ns ok h w k default l =
+    let r = w.sound (slice_index ns k) (place-member ns k l) in
+    omega (arith, reaches-down d from (slice_index ns k) ok h r, get_or_default_zero ns k default l)
+
+-- the nodes that were met are as many of each variable as are reached
+pub walk-widths : (d : Table) (from place : ℕ) (ns : List ℕ) → IsTable d → IsNode d from → Walk d from place ns → length ns ≤ place
+    → (k : ℕ) → of_depth d k ns ≡ width_at d from k
+walk-widths d from place ns ok h w end k = of_depth-width d from k ns ok h w.distinct (walk-last d from place ns ok h w end)

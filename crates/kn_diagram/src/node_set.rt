@@ -1,5 +1,4 @@
-ghost use Rattle.std.specs.Prelude.{ℕ, ◌≡◌, ◌^◌, ◌<◌, [], length, nat_eq, slice_get, OnOk};
-ghost use Rattle.std.specs.List.{IsDistinct};
+ghost use Rattle.std.specs.Prelude.{◌≡◌, [], nat_eq, slice_get, OnOk};
 ghost use Rattle.indexmap.specs.IndexSet.{insert_key};
 
 use crate::Node;
@@ -51,8 +50,7 @@ impl NodeSet {
 
     /// The numbers of the nodes, in order.
     pub(crate) fn numbers(&self) -> &[usize]
-        ensures numbers { result.now ≡ self.now }
-        ensures distinct { IsDistinct nat_eq self.now }
+        ensures { result.now ≡ self.now }
     {
         self.numbers.as_slice()
     }

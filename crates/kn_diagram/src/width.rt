@@ -1,23 +1,23 @@
 ghost use Rattle.std.specs.Prelude.{ℕ, ◌≡◌, ◌+◌, ◌^◌, ◌<◌, ◌≤◌, ◌==◌, ◌⊎◌, All, length, slice_index, nat_eq, nat_lt, if◌then◌else◌, OnOk, IfOk, IfSome, IfNone};
-ghost use Rattle.std.specs.Set.{is_member};
 ghost use Rattle.indexmap.specs.IndexSet.{insert_key};
-ghost use Rattle.kn_diagram.specs.Diagrams.{IsNode, IsTable, depth_of, high_of, low_of};
-ghost use Rattle.kn_diagram.specs.Widths.{reaches, of_depth, width_at, IsWidest};
+ghost use Rattle.kn_diagram.specs.Diagrams.{IsNode, depth_of, high_of, low_of};
+ghost use Rattle.kn_diagram.specs.Widths.{of_depth, width_at, IsWidest};
 
 use crate::node_set::NodeSet;
 use crate::{Diagrams, Node};
 use kn_logic::NoMemory;
 use std::alloc::Global;
 
-/// As many nodes of one variable as a function reaches that is not wide.
-const MOST: u64 = 256;
+/// A function is wide where more nodes of one variable than this are reached.
+const NARROW: u64 = 256;
 
 /// The greatest number of different nodes of one variable that are reached from a node.
 pub(crate) fn widest(alloc: Global, d: &Diagrams, f: Node) -> Result<u64, NoMemory>
     requires { IsNode d.now f }
     ensures { IfOk result (λ n. IsWidest d.now f n) }
 {
-    let widths = widths(alloc, d, f)?;
+    let set = reached(alloc, d, f)?;
+    let widths = by_depth(alloc, d, set.numbers())?;
     Ok(greatest(&widths))
 }
 
@@ -27,18 +27,43 @@ pub(crate) fn first_wide(alloc: Global, d: &Diagrams, f: Node) -> Result<Option<
     ensures wide { IfOk result (λ place. IfSome place (λ k. (k < length d.now.order) × (256 < width_at d.now f k))) }
     ensures narrow { IfOk result (λ place. IfNone place ((k : ℕ) → k < length d.now.order → width_at d.now f k ≤ 256)) }
 {
-    let widths = widths(alloc, d, f)?;
-    Ok(first_above(&widths, MOST))
+    let set = reached(alloc, d, f)?;
+    // So few nodes need no count of each variable's: mostly a call ends here.
+    if set.numbers().len() as u64 <= NARROW {
+        return Ok(None);
+    }
+    let widths = by_depth(alloc, d, set.numbers())?;
+    Ok(first_above(&widths, NARROW))
 }
 
-// How many nodes of each variable are reached, the top one first.
-fn widths(alloc: Global, d: &Diagrams, f: Node) -> Result<Vec<u64>, NoMemory>
+// The nodes that are reached: those below a node of the set join it, until each has had its turn.
+fn reached(alloc: Global, d: &Diagrams, f: Node) -> Result<NodeSet, NoMemory>
     requires { IsNode d.now f }
-    ensures len { IfOk result (λ ws. length ws.items ≡ length d.now.order) }
-    ensures widths { IfOk result (λ ws. (k : ℕ) → k < length d.now.order → slice_index ws.items k ≡ width_at d.now f k) }
+    ensures nodes { IfOk result (λ set. All (IsNode d.now) set) }
+    ensures widths { IfOk result (λ set. (k : ℕ) → of_depth d.now k set ≡ width_at d.now f k) }
 {
-    let set = reached(alloc, d, f)?;
-    by_depth(alloc, d, set.numbers())
+    let mut set = NodeSet::new(alloc);
+    set.insert(f)?;
+    // Older nodes than `f` alone are below it.
+    for place in 0..d.count_to(f) {
+        let Some(node) = set.get(place) else {
+            return Ok(set);
+        };
+        insert_below(d, &mut set, node)?;
+    }
+    Ok(set)
+}
+
+// Adds the high and the low node of a node that is no constant.
+fn insert_below(d: &Diagrams, set: &mut NodeSet, node: Node) -> Result<(), NoMemory>
+    requires { IsNode d.now node }
+    ensures { OnOk result (set.new ≡ (if nat_lt node 2 then set.old else insert_key nat_eq (insert_key nat_eq set.old (high_of d.now node)) (low_of d.now node))) }
+{
+    if let Some((_, high, low)) = d.parts(node) {
+        set.insert(high)?;
+        set.insert(low)?;
+    }
+    Ok(())
 }
 
 // How many of these nodes each variable has, the top one first.
@@ -66,35 +91,6 @@ fn count(d: &Diagrams, widths: &mut [u64], node: Node)
         let depth = d.depth(node);
         widths[depth] += 1;
     }
-}
-
-// The nodes that are reached: those below a node of the set join it, until each has had its turn.
-fn reached(alloc: Global, d: &Diagrams, f: Node) -> Result<NodeSet, NoMemory>
-    requires { IsNode d.now f }
-    ensures reached { IfOk result (λ set. (node : ℕ) → is_member nat_eq set node ≡ reaches d.now f node) }
-    ensures table { OnOk result (IsTable d.now) }
-{
-    let mut set = NodeSet::new(alloc);
-    set.insert(f)?;
-    for place in 0..d.count_to(f) {
-        let Some(node) = set.get(place) else {
-            return Ok(set);
-        };
-        insert_below(d, &mut set, node)?;
-    }
-    Ok(set)
-}
-
-// Adds the high and the low node of a node that is no constant.
-fn insert_below(d: &Diagrams, set: &mut NodeSet, node: Node) -> Result<(), NoMemory>
-    requires { IsNode d.now node }
-    ensures { OnOk result (set.new ≡ (if nat_lt node 2 then set.old else insert_key nat_eq (insert_key nat_eq set.old (high_of d.now node)) (low_of d.now node))) }
-{
-    if let Some((_, high, low)) = d.parts(node) {
-        set.insert(high)?;
-        set.insert(low)?;
-    }
-    Ok(())
 }
 
 fn greatest(widths: &[u64]) -> u64
