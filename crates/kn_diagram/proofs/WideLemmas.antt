@@ -4,14 +4,14 @@ use Rattle.std.specs.List.{AllByRecursion, IsDistinct, list_any}
 use Rattle.std.proofs.lemmas.Cmp.{nat_eq_equiv}
 use Rattle.std.proofs.lemmas.Map.Made.{length-le_from_is_member}
 use Rattle.std.proofs.lemmas.List.{length-map}
-use Rattle.std.proofs.lemmas.Bool.{eqb-true, eqb-false, eq-eqb, ne_eqb, cond-true, cond-false, and_parts, or_cases, or_left, or_right, cases_eq, cases_lt, cases_Bool}
-use Rattle.kn_diagram.specs.Diagrams.{Row, Table, IsNode, row_in, value_in, function_of, depth_of, high_of, low_of, AreReduced, IsTable, depth_in, AgreeFrom}
-use Rattle.kn_diagram.specs.Widths.{reaches_in, reaches, reached_below, width_at}
-use Rattle.kn_diagram.specs.Wide.{remaining, Differ, AllDiffer, DependsOn, IsWideAt, IsWide}
+use Rattle.std.proofs.lemmas.Bool.{eqb-true, eqb-false, eq-eqb, ne_eqb, cond-true, cond-false, and_parts, or_cases, cases_eq, cases_lt}
+use Rattle.kn_diagram.specs.Diagrams.{Row, Table, IsNode, row_in, value_in, function_of, depth_of, high_of, low_of, IsTable, depth_in, AgreeFrom}
+use Rattle.kn_diagram.specs.Widths.{reaches, reached_below, width_at, IsFirstWide}
+use Rattle.kn_diagram.specs.Wide.{remaining, Differ, AllDiffer, DependsOn, IsWideAt, IsTopmost, IsWide}
 use Rattle.kn_diagram.proofs.RowLemmas.{Branches, branches, value_in-below, put, put-same, put-other, deep-constant, canonical_in}
-use Rattle.kn_diagram.proofs.NodeLemmas.{depth_in-slice_index, slice_index-depth_in, function_of-below, depth_of-branch, depth_of-within, depth_of-constant}
+use Rattle.kn_diagram.proofs.NodeLemmas.{depth_in-slice_index, slice_index-depth_in, function_of-below}
 use Rattle.kn_diagram.proofs.CountLemmas.{listed, listed-has, is_counted, length-listed}
-use Rattle.kn_diagram.proofs.WayLemmas.{down_in, over, over-above, over-from, LeadsTo, down_in-leads, WayTo, way-to}
+use Rattle.kn_diagram.proofs.WayLemmas.{down_in, over, down_in-leads, way-to}
 
 -- A function hangs on the values below a number alone.
 abbrev pub HangsBelow : ℕ → ((ℕ → Bool) → Bool) → Type 0
@@ -204,9 +204,11 @@ found-apart : (d : Table) (from variable : ℕ) (way : List Bool) (ways : List (
     → AllByRecursion (Differ (remaining d.order (function_of d from) way)) (map (remaining d.order (function_of d from)) ways)
     → AllByRecursion (λ y. nat_eq (down d from way) y ≡ false) (map (down d from) ways)
 found-apart d from variable way [] f fs x = tt
-found-apart d from variable way (other ∷ ways) f fs x =
-    (ne_eqb (down d from way) (down d from other) (λ e.
-    x.0.1 (λ i. (sym f.function ∙ ap (function_of d) e ∙ fs.0.function) i x.0.0)), found-apart d from variable way ways f fs.1 x.1)
+found-apart d from variable way (other ∷ ways) f fs x = (
+  ne_eqb (down d from way) (down d from other) (λ e.
+      x.0.1 (λ i. (sym f.function ∙ ap (function_of d) e ∙ fs.0.function) i x.0.0)),
+  found-apart d from variable way ways f fs.1 x.1,
+)
 
 found-distinct : (d : Table) (from variable : ℕ) (ways : List (List Bool)) → AllByRecursion (Finds d from variable) ways
     → AllDiffer (map (remaining d.order (function_of d from)) ways) → IsDistinct nat_eq (map (down d from) ways)
@@ -368,11 +370,21 @@ width-wide d from variable ok h within many =
     }
 
 -- the same, of the variable at a depth
-pub wide-at : (d : Table) (from depth level : ℕ) → IsTable d → IsNode d from → (depth < length d.order) × (256 < width_at d from depth) → level ≡ slice_index d.order depth
-    → IsWideAt d.order (function_of d from) level
-wide-at d from depth level ok h (within, many) is =
-    let at : depth_in d.order level ≡ depth = ap (depth_in d.order) is ∙ depth_in-slice_index d.order depth ok.order within in
-    width-wide d from level ok h (omega (arith, at)) (omega (arith, many, ap (width_at d from) at))
+pub wide-at : (d : Table) (from depth level : ℕ) → IsTable d → IsNode d from → IsFirstWide d from depth → level ≡ slice_index d.order depth → IsWideAt d.order (function_of d from) level
+wide-at d from depth level ok h f is =
+    let at : depth_in d.order level ≡ depth = ap (depth_in d.order) is ∙ depth_in-slice_index d.order depth ok.order f.within in
+    width-wide d from level ok h (omega (arith, at, f.within)) (omega (arith, f.wide, ap (width_at d from) at))
+
+-- no variable above it is one where the function is wide
+pub topmost-at : (d : Table) (from depth level : ℕ) → IsTable d → IsNode d from → IsFirstWide d from depth → level ≡ slice_index d.order depth → IsTopmost d.order (function_of d from) level
+topmost-at d from depth level ok h f is = record { below = λ z w. by z w (cases_lt (depth_in d.order z) depth) }
+  where
+    at : depth_in d.order level ≡ depth
+    at = ap (depth_in d.order) is ∙ depth_in-slice_index d.order depth ok.order f.within
+
+    by : (z : ℕ) → IsWideAt d.order (function_of d from) z → ((depth_in d.order z < depth) ⊎ (depth ≤ depth_in d.order z)) → depth_in d.order level ≤ depth_in d.order z
+    by z w (inl l) = absurd (omega (arith, wide-width d from z ok h w, f.first (depth_in d.order z) l))
+    by z w (inr l) = omega (arith, at)
 
 pub not-wide : (d : Table) (from : ℕ) → IsTable d → IsNode d from → ((k : ℕ) → k < length d.order → width_at d from k ≤ 256) → IsWide d.order (function_of d from) → ⊥
 not-wide d from ok h few (variable, w) = absurd (omega (arith, wide-width d from variable ok h w, few (depth_in d.order variable) w.there))

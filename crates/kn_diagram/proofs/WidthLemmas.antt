@@ -1,11 +1,9 @@
 -- Which nodes are reached from a node.
-use Rattle.std.proofs.Common.{ℕ, zero, suc, ◌≡◌, ◌+◌, ◌-◌, ◌<◌, ◌≤◌, ◌==◌, ◌⊎◌, inl, inr, Bool, true, false, ◌&&◌, ◌||◌, if◌then◌else◌, List, [], ◌∷◌, length, slice_index_or, slice_set, replicate, lit<, refl, sym, ap, subst, ◌∙◌, arith, true≢false}
-use Rattle.std.proofs.lemmas.Bool.{eqb-true, eq-eqb, ne_eqb, cond-true, cond-false, or_cases, or_left, or_right, and_left, and_right, cases_eq, cases_lt, cases_Bool, false_from_ne_true}
-use Rattle.std.proofs.lemmas.List.{get_or-set_same, get_or-set_other, length-set, get_or-replicate, get_or_past, length-replicate}
-use Rattle.kn_diagram.specs.Diagrams.{Row, Table, IsNode, row_in, depth_of, high_of, low_of, AreReduced, IsTable}
-use Rattle.kn_diagram.specs.Widths.{reaches_in, reaches, reached_below, width_at}
+use Rattle.std.proofs.Common.{ℕ, zero, suc, ◌≡◌, ◌+◌, ◌<◌, ◌≤◌, ◌==◌, ◌⊎◌, inl, inr, true, ◌||◌, List, [], ◌∷◌, length, refl, sym, subst, ◌∙◌, arith}
+use Rattle.std.proofs.lemmas.Bool.{eqb-true, eq-eqb, ne_eqb, cond-true, cond-false, or_cases, or_left, or_right, cases_eq, cases_lt}
+use Rattle.kn_diagram.specs.Diagrams.{Row, Table, IsNode, row_in, high_of, low_of, AreReduced, IsTable}
+use Rattle.kn_diagram.specs.Widths.{reaches_in, reaches}
 use Rattle.kn_diagram.proofs.RowLemmas.{row_in-older, row_in-newest, branches}
-use Rattle.kn_diagram.proofs.NodeLemmas.{depth_of-constant}
 
 pub reaches_in-older : (row : Row) (older : List Row) (from node : ℕ) → from < length older + 2 → reaches_in (row ∷ older) from node ≡ reaches_in older from node
 reaches_in-older row older from node h =

@@ -31,3 +31,9 @@ of_depth d depth (node ∷ nodes) = (if depth_of d node == depth then 1 else 0) 
 pub record IsWidest (d : Table) (from n : ℕ) : Type 0 where
   pub bound : (depth : ℕ) → depth < length d.order → width_at d from depth ≤ n
   pub met : (n ≡ 0) ⊎ ((depth : ℕ) × (depth < length d.order) × (width_at d from depth ≡ n))
+
+-- More than 256 nodes are reached of the variable at this depth, and of none above it.
+pub record IsFirstWide (d : Table) (from depth : ℕ) : Type 0 where
+  pub within : depth < length d.order
+  pub wide : 256 < width_at d from depth
+  pub first : (k : ℕ) → k < depth → width_at d from k ≤ 256

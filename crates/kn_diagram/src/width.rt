@@ -1,7 +1,7 @@
 ghost use Rattle.std.specs.Prelude.{ℕ, ◌≡◌, ◌+◌, ◌^◌, ◌<◌, ◌≤◌, ◌==◌, ◌⊎◌, All, length, slice_index, nat_eq, nat_lt, if◌then◌else◌, OnOk, IfOk, IfSome, IfNone};
 ghost use Rattle.indexmap.specs.IndexSet.{insert_key};
 ghost use Rattle.kn_diagram.specs.Diagrams.{IsNode, depth_of, high_of, low_of};
-ghost use Rattle.kn_diagram.specs.Widths.{of_depth, width_at, IsWidest};
+ghost use Rattle.kn_diagram.specs.Widths.{of_depth, width_at, IsWidest, IsFirstWide};
 
 use crate::node_set::NodeSet;
 use crate::{Diagrams, Node};
@@ -24,7 +24,7 @@ pub(crate) fn widest(alloc: Global, d: &Diagrams, f: Node) -> Result<u64, NoMemo
 /// How far down the order the first variable stands of which more than 256 nodes are reached from a node.
 pub(crate) fn first_wide(alloc: Global, d: &Diagrams, f: Node) -> Result<Option<usize>, NoMemory>
     requires { IsNode d.now f }
-    ensures wide { IfOk result (λ place. IfSome place (λ k. (k < length d.now.order) × (256 < width_at d.now f k))) }
+    ensures wide { IfOk result (λ place. IfSome place (IsFirstWide d.now f)) }
     ensures narrow { IfOk result (λ place. IfNone place ((k : ℕ) → k < length d.now.order → width_at d.now f k ≤ 256)) }
 {
     let set = reached(alloc, d, f)?;
@@ -109,6 +109,7 @@ fn greatest(widths: &[u64]) -> u64
 // The place of the first number that is above a bound.
 fn first_above(widths: &[u64], bound: u64) -> Option<usize>
     ensures some { IfSome result (λ k. (k < length widths.now) × (bound < slice_index widths.now k)) }
+    ensures first { IfSome result (λ k. (j : ℕ) → j < k → slice_index widths.now j ≤ bound) }
     ensures none { IfNone result ((k : ℕ) → k < length widths.now → slice_index widths.now k ≤ bound) }
 {
     for (place, width) in widths.iter().enumerate() {

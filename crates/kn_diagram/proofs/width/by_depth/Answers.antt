@@ -1,4 +1,4 @@
-use Rattle.std.proofs.Common.{ℕ, ◌≡◌, ◌<◌, ◌∙◌, ap, slice_index, length, arith}
+use Rattle.std.proofs.Common.{◌<◌, ap, slice_index, length, arith}
 use Rattle.kn_diagram.proofs.CountLemmas.{of_depth-within}
 use Rattle.kn_diagram.proofs.width.by_depth.Goals as goal
 

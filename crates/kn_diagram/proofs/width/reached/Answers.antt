@@ -1,4 +1,4 @@
-use Rattle.std.proofs.Common.{◌≡◌, ◌∙◌, sym, ap, subst, arith, rules, nat_eq}
+use Rattle.std.proofs.Common.{◌∙◌, sym, ap, subst, arith, nat_eq}
 use Rattle.indexmap.specs.IndexSet.{insert_key}
 use Rattle.kn_diagram.proofs.ReachLemmas.{Walk, walk-first, walk-there, walk-step, walk-nodes, walk-widths, walk-length, past-end}
 use Rattle.kn_diagram.proofs.width.reached.Goals as goal

@@ -1,19 +1,27 @@
-use Rattle.std.proofs.Common.{ℕ, ◌≡◌, ◌<◌, ◌≤◌, ◌∙◌, sym, subst, arith, length, slice_index, Option, IfSome, IfNone}
+use Rattle.std.proofs.Common.{ℕ, ◌≡◌, ◌<◌, ◌≤◌, ◌∙◌, subst, arith, length, slice_index, IfSome, IfNone}
 use Rattle.std.proofs.lemmas.Grind.{get_or_default_zero}
 use Rattle.kn_diagram.specs.Diagrams.{IsTable}
-use Rattle.kn_diagram.specs.Widths.{width_at}
-use Rattle.kn_diagram.proofs.WideLemmas.{wide-at, not-wide}
+use Rattle.kn_diagram.specs.Widths.{width_at, IsFirstWide}
+use Rattle.kn_diagram.proofs.WideLemmas.{wide-at, topmost-at, not-wide}
 use Rattle.kn_diagram.proofs.diagrams.Diagrams.refuse_wide.Goals as goal
 
 pub returns-in-Some-clause-wide : goal.returns-in-Some-clause-wide
 returns-in-Some-clause-wide c =
-    let table : IsTable c.args.self.now = subst IsTable c.self.view_is c.self.invariant in
-    let P : ℕ → Type 0 = λ k. (k < length c.args.self.now.order) × (256 < width_at c.args.self.now c.args.w k) in
-    let at : P c.in-Some.depth = subst (λ o. IfSome o P) c.in-Some.is c.in_ok-depth.ensures.wide in
+    let first : IsFirstWide c.args.self.now c.args.w c.in-Some.depth = subst (λ o. IfSome o (IsFirstWide c.args.self.now c.args.w)) c.in-Some.is c.in_ok-depth.ensures.wide in
     let len : length c.self.inside.order.items ≡ length c.args.self.now.order = λ i. length (c.self.view_is i).order in
-    wide-at c.args.self.now c.args.w c.in-Some.depth c.index-level.result.now table c.requires at
-    (c.index-level.ensures ∙ get_or_default_zero c.self.inside.order.items c.in-Some.depth c.index-level.result.now (omega (arith, len, at.0))
-    ∙ (λ i. slice_index (c.self.view_is i).order c.in-Some.depth))
+    let level : c.index-level.result.now ≡ slice_index c.args.self.now.order c.in-Some.depth =
+    c.index-level.ensures ∙ get_or_default_zero c.self.inside.order.items c.in-Some.depth c.index-level.result.now (omega (arith, len, first.within))
+    ∙ (λ i. slice_index (c.self.view_is i).order c.in-Some.depth) in
+    wide-at c.args.self.now c.args.w c.in-Some.depth c.index-level.result.now (subst IsTable c.self.view_is c.self.invariant) c.requires first level
+
+pub returns-in-Some-clause-topmost : goal.returns-in-Some-clause-topmost
+returns-in-Some-clause-topmost c =
+    let first : IsFirstWide c.args.self.now c.args.w c.in-Some.depth = subst (λ o. IfSome o (IsFirstWide c.args.self.now c.args.w)) c.in-Some.is c.in_ok-depth.ensures.wide in
+    let len : length c.self.inside.order.items ≡ length c.args.self.now.order = λ i. length (c.self.view_is i).order in
+    let level : c.index-level.result.now ≡ slice_index c.args.self.now.order c.in-Some.depth =
+    c.index-level.ensures ∙ get_or_default_zero c.self.inside.order.items c.in-Some.depth c.index-level.result.now (omega (arith, len, first.within))
+    ∙ (λ i. slice_index (c.self.view_is i).order c.in-Some.depth) in
+    topmost-at c.args.self.now c.args.w c.in-Some.depth c.index-level.result.now (subst IsTable c.self.view_is c.self.invariant) c.requires first level
 
 pub returns-clause-narrow : goal.returns-clause-narrow
 returns-clause-narrow c =
