@@ -9,3 +9,4 @@ pub mod CountLemmas
 pub mod ReachLemmas
 pub mod WayLemmas
 pub mod WideLemmas
+pub mod TestLemmas
