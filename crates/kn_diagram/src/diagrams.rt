@@ -85,7 +85,7 @@ impl Diagrams {
         Ok(node)
     }
 
-    /// The conjunction of both functions.
+    /// The conjunction of both functions; `Wide` exactly where it is wide (`specs/Wide.antt`).
     pub fn and(&mut self, f: Node, g: Node, trace: &mut Trace) -> Result<Node, DiagramError>
         requires f_there { IsNode self.old f }
         requires g_there { IsNode self.old g }
@@ -102,7 +102,7 @@ impl Diagrams {
         self.traced(Joint::And, f, g, trace)
     }
 
-    /// The disjunction of both functions.
+    /// The disjunction of both functions; `Wide` exactly where it is wide (`specs/Wide.antt`).
     pub fn or(&mut self, f: Node, g: Node, trace: &mut Trace) -> Result<Node, DiagramError>
         requires f_there { IsNode self.old f }
         requires g_there { IsNode self.old g }
