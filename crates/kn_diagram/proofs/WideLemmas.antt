@@ -2,6 +2,7 @@
 use Rattle.std.proofs.Common.{ℕ, zero, suc, ◌≡◌, ◌+◌, ◌<◌, ◌≤◌, ◌==◌, ◌⊎◌, inl, inr, Bool, true, false, ◌&&◌, if◌then◌else◌, List, [], ◌∷◌, length, map, slice_index, slice_index_or, nat_lt, nat_eq, refl, sym, ap, subst, ◌∙◌, arith, true≢false}
 use Rattle.std.specs.List.{AllByRecursion, IsDistinct, list_any}
 use Rattle.std.proofs.lemmas.Cmp.{nat_eq_equiv}
+use Rattle.std.proofs.lemmas.Grind.{get_or_default_zero}
 use Rattle.std.proofs.lemmas.Map.Made.{length-le_from_is_member}
 use Rattle.std.proofs.lemmas.List.{length-map}
 use Rattle.std.proofs.lemmas.Bool.{eqb-true, eqb-false, eq-eqb, ne_eqb, cond-true, cond-false, and_parts, or_cases, cases_eq, cases_lt}
@@ -368,6 +369,12 @@ width-wide d from variable ok h within many =
       different = reach-all_differ d from (depth_in d.order variable) below w.ways ok h within w.reach w.apart;
       depend = reach-depend d from variable below w.ways ok h within w.reach;
     }
+
+-- the variable that is read at a depth of the order
+pub level-at : (items order : List ℕ) (depth level : ℕ) → items ≡ order → depth < length order → level ≡ slice_index_or items depth level → level ≡ slice_index order depth
+level-at items order depth level e h is =
+    let within : depth < length items = omega (arith, ap length e) in
+    is ∙ get_or_default_zero items depth level within ∙ ap (λ o. slice_index o depth) e
 
 -- the same, of the variable at a depth
 pub wide-at : (d : Table) (from depth level : ℕ) → IsTable d → IsNode d from → IsFirstWide d from depth → level ≡ slice_index d.order depth → IsWideAt d.order (function_of d from) level

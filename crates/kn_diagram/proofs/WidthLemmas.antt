@@ -16,11 +16,11 @@ reaches_in-newest row older from node e =
     cond-true (from == length older + 2) ((from == node) || (reaches_in older row.high node || reaches_in older row.low node)) (reaches_in older from node)
     (eq-eqb from (length older + 2) e)
 
-pub reaches_in-constant : (rows : List Row) (from node : ℕ) → from < 2 → reaches_in rows from node ≡ (from == node)
+reaches_in-constant : (rows : List Row) (from node : ℕ) → from < 2 → reaches_in rows from node ≡ (from == node)
 reaches_in-constant [] from node h = refl
 reaches_in-constant (row ∷ older) from node h = reaches_in-older row older from node (omega arith) ∙ reaches_in-constant older from node h
 
-pub reaches_in-branch : (bottom : ℕ) (rows : List Row) (from node : ℕ) → AreReduced bottom rows → 2 ≤ from → from < length rows + 2
+reaches_in-branch : (bottom : ℕ) (rows : List Row) (from node : ℕ) → AreReduced bottom rows → 2 ≤ from → from < length rows + 2
     → reaches_in rows from node ≡ ((from == node) || (reaches_in rows (row_in bottom rows from).high node || reaches_in rows (row_in bottom rows from).low node))
 reaches_in-branch bottom [] from node all two h = absurd (omega arith)
 reaches_in-branch bottom (row ∷ older) from node all two h =
