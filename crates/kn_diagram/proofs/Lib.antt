@@ -5,3 +5,8 @@ pub mod NodeLemmas
 pub mod JoinLemmas
 pub mod ClauseLemmas
 pub mod WidthLemmas
+pub mod CountLemmas
+pub mod ReachLemmas
+pub mod WayLemmas
+pub mod WideLemmas
+pub mod TestLemmas

@@ -1,3 +1,4 @@
 pub mod Diagrams
 pub mod Traces
 pub mod Widths
+pub mod Wide

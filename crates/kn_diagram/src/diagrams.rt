@@ -1,8 +1,9 @@
-ghost use Rattle.std.specs.Prelude.{ℕ, ◌≡◌, ◌+◌, ◌<◌, ◌≤◌, ◌&&◌, ◌||◌, ◌↔◌, min, Bool, true, false, [], length, slice_index, nat_eq, if◌then◌else◌, OnOk, OnErr, IfOk, IfSome, is_none, nat_lt};
+ghost use Rattle.std.specs.Prelude.{ℕ, ◌≡◌, ◌+◌, ◌<◌, ◌≤◌, ◌&&◌, ◌||◌, ◌↔◌, min, Bool, true, false, [], length, slice_index, nat_eq, if◌then◌else◌, OnOk, OnErr, IfOk, IfErr, IfSome, is_none, nat_lt};
 ghost use Rattle.std.specs.List.{IsDistinct, AllByRecursion, list_any};
 ghost use Rattle.kn_logic.specs.Constraints.{is_clause};
 ghost use Rattle.kn_logic.specs.Assignments.{value_of};
 ghost use Rattle.kn_diagram.specs.Widths.{IsWidest};
+ghost use Rattle.kn_diagram.specs.Wide.{IfWide, IsWideAt, IsTopmost, IsWide};
 ghost use Rattle.kn_diagram.specs.Traces.{connective, AreExplained, Gains, IsRight, Explains};
 ghost use Rattle.kn_diagram.specs.Diagrams.{IsNode, function_of, depth_of, depth_in, is_true_by, asks, IsBranch, IsCanonical, HasNodes, IsTable, IsSplit, IsMade, Keeps};
 
@@ -84,7 +85,7 @@ impl Diagrams {
         Ok(node)
     }
 
-    /// The conjunction of both functions.
+    /// The conjunction of both functions; `Wide` exactly where it is wide (`specs/Wide.antt`).
     pub fn and(&mut self, f: Node, g: Node, trace: &mut Trace) -> Result<Node, DiagramError>
         requires f_there { IsNode self.old f }
         requires g_there { IsNode self.old g }
@@ -94,11 +95,14 @@ impl Diagrams {
         ensures function { IfOk result (λ w. (v : ℕ → Bool) → function_of self.new w v ≡ (function_of self.old f v && function_of self.old g v)) }
         ensures traced { IfOk result (λ w. Explains (λ a b. a && b) self.new trace.old trace.new (record { u = f; v = g; w = w })) }
         ensures err { OnErr result (trace.new ≡ trace.old) }
+        ensures wide { IfErr result (λ e. IfWide e (λ level. IsWideAt self.old.order (λ v. function_of self.old f v && function_of self.old g v) level)) }
+        ensures topmost { IfErr result (λ e. IfWide e (λ level. IsTopmost self.old.order (λ v. function_of self.old f v && function_of self.old g v) level)) }
+        ensures narrow { IfOk result (λ w. IsWide self.new.order (function_of self.new w) → ⊥) }
     {
         self.traced(Joint::And, f, g, trace)
     }
 
-    /// The disjunction of both functions.
+    /// The disjunction of both functions; `Wide` exactly where it is wide (`specs/Wide.antt`).
     pub fn or(&mut self, f: Node, g: Node, trace: &mut Trace) -> Result<Node, DiagramError>
         requires f_there { IsNode self.old f }
         requires g_there { IsNode self.old g }
@@ -108,6 +112,9 @@ impl Diagrams {
         ensures function { IfOk result (λ w. (v : ℕ → Bool) → function_of self.new w v ≡ (function_of self.old f v || function_of self.old g v)) }
         ensures traced { IfOk result (λ w. Explains (λ a b. a || b) self.new trace.old trace.new (record { u = f; v = g; w = w })) }
         ensures err { OnErr result (trace.new ≡ trace.old) }
+        ensures wide { IfErr result (λ e. IfWide e (λ level. IsWideAt self.old.order (λ v. function_of self.old f v || function_of self.old g v) level)) }
+        ensures topmost { IfErr result (λ e. IfWide e (λ level. IsTopmost self.old.order (λ v. function_of self.old f v || function_of self.old g v) level)) }
+        ensures narrow { IfOk result (λ w. IsWide self.new.order (function_of self.new w) → ⊥) }
     {
         self.traced(Joint::Or, f, g, trace)
     }
@@ -271,11 +278,29 @@ impl Diagrams {
         ensures right { IfOk result (λ w. IsRight (connective joint) self.new (record { u = f; v = g; w = w })) }
         ensures explained { IfOk result (λ w. Explains (connective joint) self.new trace.old trace.new (record { u = f; v = g; w = w })) }
         ensures err { OnErr result (trace.new ≡ trace.old) }
+        ensures wide { IfErr result (λ e. IfWide e (λ level. IsWideAt self.old.order (λ v. connective joint (function_of self.old f v) (function_of self.old g v)) level)) }
+        ensures topmost { IfErr result (λ e. IfWide e (λ level. IsTopmost self.old.order (λ v. connective joint (function_of self.old f v) (function_of self.old g v)) level)) }
+        ensures narrow { IfOk result (λ w. IsWide self.new.order (function_of self.new w) → ⊥) }
     {
         let mut memo = Memo::new(*self.order.allocator());
         let w = self.join(joint, f, g, &mut memo)?;
+        self.refuse_wide(w)?;
         memo.write(trace)?;
         Ok(w)
+    }
+
+    // An error exactly where the function of a node is wide: it names the topmost variable where it is.
+    fn refuse_wide(&self, w: Node) -> Result<(), DiagramError>
+        requires { IsNode self.now w }
+        ensures wide { IfErr result (λ e. IfWide e (λ level. IsWideAt self.now.order (function_of self.now w) level)) }
+        ensures topmost { IfErr result (λ e. IfWide e (λ level. IsTopmost self.now.order (function_of self.now w) level)) }
+        ensures narrow { OnOk result (IsWide self.now.order (function_of self.now w) → ⊥) }
+    {
+        if let Some(depth) = width::first_wide(*self.order.allocator(), self, w)? {
+            let level = self.order[depth];
+            return Err(DiagramError::Wide { level });
+        }
+        Ok(())
     }
 }
 
