@@ -1,3 +1,4 @@
 pub mod Text
 pub mod Added
 mod Failing
+mod Twice
