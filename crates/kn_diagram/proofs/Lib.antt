@@ -7,3 +7,4 @@ pub mod ClauseLemmas
 pub mod WidthLemmas
 pub mod WayLemmas
 pub mod WideLemmas
+pub mod DependLemmas

@@ -1,11 +1,10 @@
 -- Ways down from a node, and the nodes that they lead to.
-use Rattle.std.proofs.Common.{ℕ, zero, suc, ◌≡◌, ◌+◌, ◌<◌, ◌≤◌, ◌==◌, ◌⊎◌, inl, inr, Bool, true, false, ◌||◌, if◌then◌else◌, List, [], ◌∷◌, length, slice_index, slice_index_or, nat_lt, refl, sym, ap, subst, ◌∙◌, arith, true≢false}
-use Rattle.std.proofs.lemmas.Bool.{eqb-true, eq-eqb, ne_eqb, cond-true, cond-false, or_cases, or_left, or_right, cases_eq, cases_lt, ltb-true, ltb-false, lt-ltb, le-ltb}
-use Rattle.kn_diagram.specs.Diagrams.{Row, Table, IsNode, row_in, value_in, function_of, depth_of, high_of, low_of, AreReduced, IsTable, depth_in}
-use Rattle.kn_diagram.specs.Widths.{reaches_in, reaches}
-use Rattle.kn_diagram.specs.Wide.{remaining, Differ, DependsOn}
-use Rattle.kn_diagram.proofs.RowLemmas.{row_in-older, row_in-newest, value_in-older, value_in-newest, value_in-below, put, put-same, put-other, deep-constant, canonical_in}
-use Rattle.kn_diagram.proofs.WidthLemmas.{reaches_in-older, reaches_in-newest, reaches_in-down, reaches-self}
+use Rattle.std.proofs.Common.{ℕ, ◌≡◌, ◌+◌, ◌<◌, ◌≤◌, ◌==◌, ◌⊎◌, inl, inr, Bool, true, false, ◌||◌, if◌then◌else◌, List, [], ◌∷◌, length, nat_lt, refl, sym, ap, subst, ◌∙◌, arith}
+use Rattle.std.proofs.lemmas.Bool.{eqb-true, eq-eqb, ne_eqb, cond-true, cond-false, or_cases, or_left, or_right, cases_eq, cases_lt, lt-ltb, le-ltb}
+use Rattle.kn_diagram.specs.Diagrams.{Row, row_in, value_in, AreReduced}
+use Rattle.kn_diagram.specs.Widths.{reaches_in}
+use Rattle.kn_diagram.proofs.RowLemmas.{row_in-older, row_in-newest, value_in-older, value_in-newest, value_in-below, put, put-same, put-other}
+use Rattle.kn_diagram.proofs.WidthLemmas.{reaches_in-older, reaches_in-newest, reaches_in-down}
 
 -- the node that these values lead to: the first whose depth is not above z
 abbrev pub down_in : List Row → ℕ → ℕ → (ℕ → Bool) → ℕ

@@ -4,19 +4,19 @@ use Rattle.std.specs.List.{AllByRecursion, IsDistinct, list_any}
 use Rattle.std.proofs.lemmas.Cmp.{nat_eq_equiv}
 use Rattle.std.proofs.lemmas.Map.Made.{length-le_from_is_member}
 use Rattle.std.proofs.lemmas.List.{length-map}
-use Rattle.std.proofs.lemmas.Bool.{eqb-true, eqb-false, eq-eqb, ne_eqb, cond-true, cond-false, and_parts, or_cases, or_left, or_right, cases_eq, cases_lt, cases_Bool}
-use Rattle.kn_diagram.specs.Diagrams.{Row, Table, IsNode, row_in, value_in, function_of, depth_of, high_of, low_of, AreReduced, IsTable, depth_in, AgreeFrom}
-use Rattle.kn_diagram.specs.Widths.{reaches_in, reaches, reached_below, width_at}
+use Rattle.std.proofs.lemmas.Bool.{eqb-true, eqb-false, eq-eqb, ne_eqb, cond-true, cond-false, and_parts, or_cases, or_left, or_right, cases_eq, cases_lt}
+use Rattle.kn_diagram.specs.Diagrams.{Row, Table, IsNode, row_in, value_in, function_of, depth_of, high_of, low_of, IsTable, depth_in, AgreeFrom}
+use Rattle.kn_diagram.specs.Widths.{reaches, reached_below, width_at}
 use Rattle.kn_diagram.specs.Wide.{remaining, Differ, AllDiffer, DependsOn, IsWideAt, IsWide}
 use Rattle.kn_diagram.proofs.RowLemmas.{Branches, branches, value_in-below, put, put-same, put-other, deep-constant, canonical_in}
-use Rattle.kn_diagram.proofs.NodeLemmas.{depth_in-slice_index, slice_index-depth_in, function_of-below, depth_of-branch, depth_of-within, depth_of-constant}
-use Rattle.kn_diagram.proofs.WayLemmas.{down_in, over, over-above, over-from, LeadsTo, down_in-leads, WayTo, way-to}
+use Rattle.kn_diagram.proofs.NodeLemmas.{depth_in-slice_index, slice_index-depth_in, function_of-below}
+use Rattle.kn_diagram.proofs.WayLemmas.{down_in, over, down_in-leads, way-to}
 
 -- A function hangs on the values below a number alone.
 abbrev pub HangsBelow : ℕ → ((ℕ → Bool) → Bool) → Type 0
 HangsBelow n f = (t s : ℕ → Bool) → ((k : ℕ) → k < n → t k ≡ s k) → f t ≡ f s
 
-equal-or-not : (a b : Bool) → (a ≡ b) ⊎ (a ≡ b → ⊥)
+pub equal-or-not : (a b : Bool) → (a ≡ b) ⊎ (a ≡ b → ⊥)
 equal-or-not true true = inl refl
 equal-or-not false false = inl refl
 equal-or-not true false = inr true≢false
@@ -217,7 +217,7 @@ pub record Finds (d : Table) (from variable : ℕ) (way : List Bool) : Type 0 wh
   pub there : IsNode d (down d from way)
   pub function : function_of d (down d from way) ≡ remaining d.order (function_of d from) way
 
-way-finds : (d : Table) (from variable : ℕ) (way : List Bool) → IsTable d → IsNode d from → depth_in d.order variable < length d.order
+pub way-finds : (d : Table) (from variable : ℕ) (way : List Bool) → IsTable d → IsNode d from → depth_in d.order variable < length d.order
     → length way ≡ depth_in d.order variable → DependsOn (remaining d.order (function_of d from) way) variable → Finds d from variable way
 way-finds d from variable way ok h within len depends =
     let l = leads d from way ok h (omega arith) in
@@ -246,9 +246,11 @@ found-apart : (d : Table) (from variable : ℕ) (way : List Bool) (ways : List (
     → AllByRecursion (Differ (remaining d.order (function_of d from) way)) (map (remaining d.order (function_of d from)) ways)
     → AllByRecursion (λ y. nat_eq (down d from way) y ≡ false) (map (down d from) ways)
 found-apart d from variable way [] f fs x = tt
-found-apart d from variable way (other ∷ ways) f fs x =
-    (ne_eqb (down d from way) (down d from other) (λ e.
-    x.0.1 (λ i. (sym f.function ∙ ap (function_of d) e ∙ fs.0.function) i x.0.0)), found-apart d from variable way ways f fs.1 x.1)
+found-apart d from variable way (other ∷ ways) f fs x = (
+  ne_eqb (down d from way) (down d from other) (λ e.
+      x.0.1 (λ i. (sym f.function ∙ ap (function_of d) e ∙ fs.0.function) i x.0.0)),
+  found-apart d from variable way ways f fs.1 x.1,
+)
 
 found-distinct : (d : Table) (from variable : ℕ) (ways : List (List Bool)) → AllByRecursion (Finds d from variable) ways
     → AllDiffer (map (remaining d.order (function_of d from)) ways) → IsDistinct nat_eq (map (down d from) ways)
@@ -286,11 +288,11 @@ abbrev pub way_of : ℕ → (ℕ → Bool) → List Bool
 way_of zero t = []
 way_of (suc n) t = t 0 ∷ way_of n (λ k. t (suc k))
 
-length-way_of : (n : ℕ) (t : ℕ → Bool) → length (way_of n t) ≡ n
+pub length-way_of : (n : ℕ) (t : ℕ → Bool) → length (way_of n t) ≡ n
 length-way_of zero t = refl
 length-way_of (suc n) t = omega (arith, length-way_of n (λ k. t (suc k)))
 
-way_of-at : (n : ℕ) (t : ℕ → Bool) (k : ℕ) → k < n → slice_index_or (way_of n t) k false ≡ t k
+pub way_of-at : (n : ℕ) (t : ℕ → Bool) (k : ℕ) → k < n → slice_index_or (way_of n t) k false ≡ t k
 way_of-at zero t k h = absurd (omega arith)
 way_of-at (suc n) t zero h = refl
 way_of-at (suc n) t (suc k) h = way_of-at n (λ k. t (suc k)) k (omega arith)

@@ -1,4 +1,4 @@
-ghost use Rattle.std.specs.Prelude.{◌≡◌, ◌++◌, [], OnOk, OnErr};
+ghost use Rattle.std.specs.Prelude.{◌≡◌, ◌++◌, [], take, OnOk, OnErr};
 
 use crate::Node;
 use kn_logic::NoMemory;
@@ -45,10 +45,18 @@ impl Trace {
         &self.entries
     }
 
-    pub(crate) fn append(&mut self, entries: &mut Vec<Met>) -> Result<(), NoMemory>
+    /// Puts entries behind those that are there. Where memory runs out, none has come.
+    pub fn append(&mut self, entries: &mut Vec<Met>) -> Result<(), NoMemory>
         ensures ok { OnOk result (self.new ≡ self.old ++ entries.old.items) }
         ensures err { OnErr result (self.new ≡ self.old) }
     {
         self.entries.append(entries)
+    }
+
+    /// Drops all entries but so many, which is at most how many there are.
+    pub fn truncate(&mut self, len: usize)
+        ensures { self.new ≡ take len self.old }
+    {
+        self.entries.truncate(len);
     }
 }

@@ -28,8 +28,8 @@ pub(crate) fn first_wide(alloc: Global, d: &Diagrams, f: Node) -> Result<Option<
     Ok(first_above(&widths, MOST))
 }
 
-// How many nodes of each variable are reached, the top one first.
-fn widths(alloc: Global, d: &Diagrams, f: Node) -> Result<Vec<u64>, NoMemory>
+/// How many nodes of each variable are reached, the top one first.
+pub(crate) fn widths(alloc: Global, d: &Diagrams, f: Node) -> Result<Vec<u64>, NoMemory>
     requires { IsNode d.now f }
     ensures len { IfOk result (λ ws. length ws.items ≡ length d.now.order) }
     ensures widths { IfOk result (λ ws. (k : ℕ) → k < length d.now.order → slice_index ws.items k ≡ width_at d.now f k) }

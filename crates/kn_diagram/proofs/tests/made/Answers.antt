@@ -1,5 +1,5 @@
 use Rattle.std.proofs.Common.{◌≡◌, ◌∙◌, ap, length, arith, lit<}
-use Rattle.kn_diagram.specs.Diagrams.{depth_in, depth_of}
+use Rattle.kn_diagram.specs.Diagrams.{depth_in}
 use Rattle.kn_diagram.proofs.NodeLemmas.{depth_of-constant}
 use Rattle.kn_diagram.proofs.tests.made.Goals as goal
 

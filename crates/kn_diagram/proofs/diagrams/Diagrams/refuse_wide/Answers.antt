@@ -1,4 +1,4 @@
-use Rattle.std.proofs.Common.{ℕ, ◌≡◌, ◌<◌, ◌≤◌, ◌∙◌, sym, subst, arith, length, slice_index, Option, IfSome, IfNone}
+use Rattle.std.proofs.Common.{ℕ, ◌≡◌, ◌<◌, ◌≤◌, ◌∙◌, subst, arith, length, slice_index, IfSome, IfNone}
 use Rattle.std.proofs.lemmas.Grind.{get_or_default_zero}
 use Rattle.kn_diagram.specs.Diagrams.{IsTable}
 use Rattle.kn_diagram.specs.Widths.{width_at}
