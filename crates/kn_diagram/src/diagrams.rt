@@ -97,6 +97,7 @@ impl Diagrams {
         ensures err { OnErr result (trace.new ≡ trace.old) }
         ensures wide { IfErr result (λ e. IfWide e (λ level. IsWideAt self.old.order (λ v. function_of self.old f v && function_of self.old g v) level)) }
         ensures narrow { IfOk result (λ w. IsWide self.new.order (function_of self.new w) → ⊥) }
+        ensures table { OnOk result (IsTable self.new) }
     {
         self.traced(Joint::And, f, g, trace)
     }
@@ -113,6 +114,7 @@ impl Diagrams {
         ensures err { OnErr result (trace.new ≡ trace.old) }
         ensures wide { IfErr result (λ e. IfWide e (λ level. IsWideAt self.old.order (λ v. function_of self.old f v || function_of self.old g v) level)) }
         ensures narrow { IfOk result (λ w. IsWide self.new.order (function_of self.new w) → ⊥) }
+        ensures table { OnOk result (IsTable self.new) }
     {
         self.traced(Joint::Or, f, g, trace)
     }
@@ -213,6 +215,7 @@ impl Diagrams {
         requires { IsNode self.now w }
         ensures wide { IfErr result (λ e. IfWide e (λ level. IsWideAt self.now.order (function_of self.now w) level)) }
         ensures narrow { OnOk result (IsWide self.now.order (function_of self.now w) → ⊥) }
+        ensures table { IsTable self.now }
     {
         if let Some(depth) = width::first_wide(*self.order.allocator(), self, w)? {
             let level = self.order[depth];
@@ -226,6 +229,7 @@ impl Diagrams {
         requires { IsNode self.now node }
         ensures value { result ≡ depth_of self.now node }
         ensures branch { 2 ≤ node → result < length self.now.order }
+        ensures table { IsTable self.now }
     {
         let number = node.number();
         if number < 2 {
@@ -317,6 +321,7 @@ impl Diagrams {
         ensures err { OnErr result (trace.new ≡ trace.old) }
         ensures wide { IfErr result (λ e. IfWide e (λ level. IsWideAt self.old.order (λ v. connective joint (function_of self.old f v) (function_of self.old g v)) level)) }
         ensures narrow { IfOk result (λ w. IsWide self.new.order (function_of self.new w) → ⊥) }
+        ensures table { OnOk result (IsTable self.new) }
     {
         let mut memo = Memo::new(*self.order.allocator());
         let w = self.join(joint, f, g, &mut memo)?;

@@ -1,0 +1,3 @@
+pub mod TraceLemmas
+pub mod SettleLemmas
+pub mod QuantWide
