@@ -6,7 +6,8 @@ use Rattle.kn_diagram.specs.Diagrams.{Table, IsNode, function_of, IsTable, depth
 use Rattle.kn_diagram.specs.Widths.{reached_below, width_at}
 use Rattle.kn_diagram.specs.Wide.{remaining, DependsOn, Ignores}
 use Rattle.kn_diagram.proofs.NodeLemmas.{slice_index-depth_in}
-use Rattle.kn_diagram.proofs.WideLemmas.{equal-or-not, is_counted, down, leads, node-depends, Reaches, Ways, ways-of, way-finds, way_of, length-way_of, way_of-at}
+use Rattle.kn_diagram.proofs.CountLemmas.{is_counted}
+use Rattle.kn_diagram.proofs.WideLemmas.{equal-or-not, down, leads, node-depends, Reaches, Ways, ways-of, way-finds, way_of, length-way_of, way_of-at}
 
 -- What remains depends on a variable that is not above only where the whole does.
 pub remaining-depends : (order : List ℕ) (f : (ℕ → Bool) → Bool) (way : List Bool) (variable : ℕ) → length way ≤ depth_in order variable

@@ -93,6 +93,19 @@ has_pair-more (x ∷ ms) m u v h = by ((u == x.u) && (v == x.v)) refl (has_pair-
         ap is_some (cond-false ((u == x.u) && (v == x.v)) (Some x.w) (found (ms ++ m ∷ []) u v) t)
         ∙ rest (sym (ap is_some (cond-false ((u == x.u) && (v == x.v)) (Some x.w) (found ms u v) t)) ∙ h)
 
+-- the result that is found is found among more entries
+pub found-front : (ms more : List Met) (u v w : ℕ) → found ms u v ≡ Some w → found (ms ++ more) u v ≡ Some w
+found-front [] more u v w h = let e : None ≡ Some w = h in absurd (cc)
+found-front (x ∷ ms) more u v w h = by ((u == x.u) && (v == x.v)) refl (found-front ms more u v w)
+  where
+    by : (b : Bool) → ((u == x.u) && (v == x.v)) ≡ b → (found ms u v ≡ Some w → found (ms ++ more) u v ≡ Some w) → found (x ∷ ms ++ more) u v ≡ Some w
+    by true t rest =
+        cond-true ((u == x.u) && (v == x.v)) (Some x.w) (found (ms ++ more) u v) t
+        ∙ sym (cond-true ((u == x.u) && (v == x.v)) (Some x.w) (found ms u v) t) ∙ h
+    by false t rest =
+        cond-false ((u == x.u) && (v == x.v)) (Some x.w) (found (ms ++ more) u v) t
+        ∙ rest (sym (cond-false ((u == x.u) && (v == x.v)) (Some x.w) (found ms u v) t) ∙ h)
+
 pub found-other : (f g w p q : ℕ) → f + g < p + q → found (record { u = f; v = g; w = w } ∷ []) p q ≡ None
 found-other f g w p q h = by ((p == f) && (q == g)) refl
   where
@@ -114,6 +127,7 @@ Gains-known join d ms f g w h e = record {
   explained = h;
   noted = e;
   kept = λ p q a. a;
+  same = λ p q x a. a;
   absent = λ p q a b. b;
   last = λ n. let some : Some w ≡ None = sym e ∙ n in absurd (cc);
 }
@@ -122,13 +136,15 @@ Gains-known join d ms f g w h e = record {
 Gains-noted : (join : Bool → Bool → Bool) (d : Table) (before ms : List Met) (f g w : ℕ) → AreExplained join d [] ms
     → IsExplained join d ms (record { u = f; v = g; w = w }) → found ms f g ≡ None
     → ((p q : ℕ) → has_pair before p q ≡ true → has_pair ms p q ≡ true)
+    → ((p q x : ℕ) → found before p q ≡ Some x → found ms p q ≡ Some x)
     → ((p q : ℕ) → f + g < p + q → found before p q ≡ None → found ms p q ≡ None)
     → Gains join d before (ms ++ record { u = f; v = g; w = w } ∷ []) f g w
-Gains-noted join d before ms f g w h e n kept absent = record {
+Gains-noted join d before ms f g w h e n kept same absent = record {
   right = e.right;
   explained = AreExplained-more join d [] ms (record { u = f; v = g; w = w }) h e;
   noted = found-more ms (record { u = f; v = g; w = w }) f g n ∙ found-own f g w;
   kept = λ p q a. has_pair-more ms (record { u = f; v = g; w = w }) p q (kept p q a);
+  same = λ p q x a. found-front ms (record { u = f; v = g; w = w } ∷ []) p q x (same p q x a);
   absent = λ p q a b. found-more ms (record { u = f; v = g; w = w }) p q (absent p q a b) ∙ found-other f g w p q a;
   last = λ z. (ms, refl);
 }
@@ -161,6 +177,7 @@ Gains-open join d0 d1 d2 d3 m0 m1 m2 f g depth fh fl gh gl h l w at nf ng sf sg 
     })
     (g2.absent f g less_low (g1.absent f g less_high fresh))
     (λ p q a. g2.kept p q (g1.kept p q a))
+    (λ p q x a. g2.same p q x (g1.same p q x a))
     (λ p q a b. g2.absent p q (omega (arith, less_low, a)) (g1.absent p q (omega (arith, less_high, a)) b))
   where
     k02 : Keeps d0 d2
@@ -333,7 +350,7 @@ decided-none joint f g e =
 pub Gains-decided : (joint : Joint) (d : Table) (ms : List Met) (f g w : ℕ) → IsNode d f → IsNode d g → AreExplained (connective joint) d [] ms → found ms f g ≡ None
     → decided joint f g ≡ Some w → Gains (connective joint) d ms (ms ++ record { u = f; v = g; w = w } ∷ []) f g w
 Gains-decided joint d ms f g w nf ng h n e =
-    Gains-noted (connective joint) d ms ms f g w h (decided-explained joint d ms f g w nf ng e) n (λ p q a. a) (λ p q a b. b)
+    Gains-noted (connective joint) d ms ms f g w h (decided-explained joint d ms f g w nf ng e) n (λ p q a. a) (λ p q x a. a) (λ p q a b. b)
 
 -- the entries of a call that began with none explain their last
 pub Explains-gained : (join : Bool → Bool → Bool) (d : Table) (after old new : List Met) (f g w : ℕ) → Gains join d [] after f g w → new ≡ old ++ after

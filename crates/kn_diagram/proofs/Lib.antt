@@ -5,6 +5,9 @@ pub mod NodeLemmas
 pub mod JoinLemmas
 pub mod ClauseLemmas
 pub mod WidthLemmas
+pub mod CountLemmas
+pub mod ReachLemmas
 pub mod WayLemmas
 pub mod WideLemmas
 pub mod DependLemmas
+pub mod TestLemmas

@@ -41,6 +41,10 @@ pub depth_of-constant : (d : Table) (node : ℕ) → node < 2 → depth_of d nod
 unfolding depth_of
 depth_of-constant d node h = ap (λ r. r.depth) (row_in-constant (length d.order) d.rows node h)
 
+-- a constant is of no variable, and counts at no depth
+pub constant-uncounted : (d : Table) (node depth : ℕ) → node < 2 → depth < length d.order → ◌≡◌ {A = ℕ} (if depth_of d node == depth then 1 else 0) 0
+constant-uncounted d node depth low h = cond-false (depth_of d node == depth) 1 0 (ne_eqb (depth_of d node) depth (λ e. omega (arith, depth_of-constant d node low)))
+
 pub function_of-constant : (d : Table) (node : ℕ) (v : ℕ → Bool) → node < 2 → function_of d node v ≡ (node == 1)
 unfolding function_of
 function_of-constant d node v h = value_in-constant d.rows node (λ k. v (slice_index d.order k)) h

@@ -2,14 +2,16 @@
 use Rattle.std.proofs.Common.{ℕ, zero, suc, ◌≡◌, ◌+◌, ◌<◌, ◌≤◌, ◌==◌, ◌⊎◌, inl, inr, Bool, true, false, ◌&&◌, if◌then◌else◌, List, [], ◌∷◌, length, map, slice_index, slice_index_or, nat_lt, nat_eq, refl, sym, ap, subst, ◌∙◌, arith, true≢false}
 use Rattle.std.specs.List.{AllByRecursion, IsDistinct, list_any}
 use Rattle.std.proofs.lemmas.Cmp.{nat_eq_equiv}
+use Rattle.std.proofs.lemmas.Grind.{get_or_default_zero}
 use Rattle.std.proofs.lemmas.Map.Made.{length-le_from_is_member}
 use Rattle.std.proofs.lemmas.List.{length-map}
 use Rattle.std.proofs.lemmas.Bool.{eqb-true, eqb-false, eq-eqb, ne_eqb, cond-true, cond-false, and_parts, or_cases, or_left, or_right, cases_eq, cases_lt}
 use Rattle.kn_diagram.specs.Diagrams.{Row, Table, IsNode, row_in, value_in, function_of, depth_of, high_of, low_of, IsTable, depth_in, AgreeFrom}
-use Rattle.kn_diagram.specs.Widths.{reaches, reached_below, width_at}
-use Rattle.kn_diagram.specs.Wide.{remaining, Differ, AllDiffer, DependsOn, IsWideAt, IsWide}
+use Rattle.kn_diagram.specs.Widths.{reaches, reached_below, width_at, IsFirstWide}
+use Rattle.kn_diagram.specs.Wide.{remaining, Differ, AllDiffer, DependsOn, IsWideAt, IsTopmost, IsWide}
 use Rattle.kn_diagram.proofs.RowLemmas.{Branches, branches, value_in-below, put, put-same, put-other, deep-constant, canonical_in}
 use Rattle.kn_diagram.proofs.NodeLemmas.{depth_in-slice_index, slice_index-depth_in, function_of-below}
+use Rattle.kn_diagram.proofs.CountLemmas.{listed, listed-has, is_counted, length-listed}
 use Rattle.kn_diagram.proofs.WayLemmas.{down_in, over, down_in-leads, way-to}
 
 -- A function hangs on the values below a number alone.
@@ -167,49 +169,6 @@ node-depends d node variable ok h at within = by (nodes-differ d own.high own.lo
 
     by : Differ (function_of d own.high) (function_of d own.low) → DependsOn (function_of d node) variable
     by (v, x) = (v, λ e. x (sym (high v) ∙ e ∙ low v))
-
--- the numbers below n that pass a test, the greatest first
-abbrev pub listed : (ℕ → Bool) → ℕ → List ℕ
-listed test zero = []
-listed test (suc n) = if test n then n ∷ listed test n else listed test n
-
-listed-only : (test : ℕ → Bool) (n q : ℕ) → list_any (nat_eq q) (listed test n) ≡ true → (q < n) × (test q ≡ true)
-listed-only test zero q h = absurd (true≢false (sym h))
-listed-only test (suc n) q h = by (test n) refl (listed-only test n q)
-  where
-    later : (q < n) × (test q ≡ true) → (q < suc n) × (test q ≡ true)
-    later (a, b) = (omega arith, b)
-
-    by : (b : Bool) → test n ≡ b → (list_any (nat_eq q) (listed test n) ≡ true → (q < n) × (test q ≡ true)) → (q < suc n) × (test q ≡ true)
-    by true t rest = which (or_cases (nat_eq q n) (list_any (nat_eq q) (listed test n)) (sym (ap (list_any (nat_eq q)) (cond-true (test n) (n ∷ listed test n) (listed test n) t)) ∙ h))
-      where
-        which : (nat_eq q n ≡ true) ⊎ (list_any (nat_eq q) (listed test n) ≡ true) → (q < suc n) × (test q ≡ true)
-        which (inl s) = let e = eqb-true q n s in (omega arith, ap test e ∙ t)
-        which (inr s) = later (rest s)
-    by false t rest = later (rest (sym (ap (list_any (nat_eq q)) (cond-false (test n) (n ∷ listed test n) (listed test n) t)) ∙ h))
-
-listed-has : (test : ℕ → Bool) (n q : ℕ) → q < n → test q ≡ true → list_any (nat_eq q) (listed test n) ≡ true
-listed-has test zero q l t = absurd (omega arith)
-listed-has test (suc n) q l t = by (cases_eq q n) (test n) refl (listed-has test n q)
-  where
-    by : ((q ≡ n) ⊎ (q ≡ n → ⊥)) → (b : Bool) → test n ≡ b → (q < n → test q ≡ true → list_any (nat_eq q) (listed test n) ≡ true) → list_any (nat_eq q) (listed test (suc n)) ≡ true
-    by (inl e) true s rest = ap (list_any (nat_eq q)) (cond-true (test n) (n ∷ listed test n) (listed test n) s) ∙ or_left (nat_eq q n) (list_any (nat_eq q) (listed test n)) (eq-eqb q n e)
-    by (inl e) false s rest = absurd (true≢false (sym t ∙ ap test e ∙ s))
-    by (inr x) true s rest = ap (list_any (nat_eq q)) (cond-true (test n) (n ∷ listed test n) (listed test n) s) ∙ or_right (nat_eq q n) (list_any (nat_eq q) (listed test n)) (rest (omega arith) t)
-    by (inr x) false s rest = ap (list_any (nat_eq q)) (cond-false (test n) (n ∷ listed test n) (listed test n) s) ∙ rest (omega arith) t
-
--- whether a node is reached and is of the variable at this depth
-abbrev pub is_counted : Table → ℕ → ℕ → ℕ → Bool
-is_counted d from depth node = reaches d from node && (depth_of d node == depth)
-
-pub length-listed : (d : Table) (from depth n : ℕ) → length (listed (is_counted d from depth) n) ≡ reached_below d from depth n
-length-listed d from depth zero = refl
-length-listed d from depth (suc n) = by (is_counted d from depth n) (length-listed d from depth n)
-  where
-    by : (b : Bool) → length (listed (is_counted d from depth) n) ≡ reached_below d from depth n
-        → length (if b then n ∷ listed (is_counted d from depth) n else listed (is_counted d from depth) n) ≡ (if b then 1 else 0) + reached_below d from depth n
-    by true e = omega (arith, e)
-    by false e = omega (arith, e)
 
 -- A way that leads to a node of this variable.
 pub record Finds (d : Table) (from variable : ℕ) (way : List Bool) : Type 0 where
@@ -411,12 +370,28 @@ width-wide d from variable ok h within many =
       depend = reach-depend d from variable below w.ways ok h within w.reach;
     }
 
+-- the variable that is read at a depth of the order
+pub level-at : (items order : List ℕ) (depth level : ℕ) → items ≡ order → depth < length order → level ≡ slice_index_or items depth level → level ≡ slice_index order depth
+level-at items order depth level e h is =
+    let within : depth < length items = omega (arith, ap length e) in
+    is ∙ get_or_default_zero items depth level within ∙ ap (λ o. slice_index o depth) e
+
 -- the same, of the variable at a depth
-pub wide-at : (d : Table) (from depth level : ℕ) → IsTable d → IsNode d from → (depth < length d.order) × (256 < width_at d from depth) → level ≡ slice_index d.order depth
-    → IsWideAt d.order (function_of d from) level
-wide-at d from depth level ok h (within, many) is =
-    let at : depth_in d.order level ≡ depth = ap (depth_in d.order) is ∙ depth_in-slice_index d.order depth ok.order within in
-    width-wide d from level ok h (omega (arith, at)) (omega (arith, many, ap (width_at d from) at))
+pub wide-at : (d : Table) (from depth level : ℕ) → IsTable d → IsNode d from → IsFirstWide d from depth → level ≡ slice_index d.order depth → IsWideAt d.order (function_of d from) level
+wide-at d from depth level ok h f is =
+    let at : depth_in d.order level ≡ depth = ap (depth_in d.order) is ∙ depth_in-slice_index d.order depth ok.order f.within in
+    width-wide d from level ok h (omega (arith, at, f.within)) (omega (arith, f.wide, ap (width_at d from) at))
+
+-- no variable above it is one where the function is wide
+pub topmost-at : (d : Table) (from depth level : ℕ) → IsTable d → IsNode d from → IsFirstWide d from depth → level ≡ slice_index d.order depth → IsTopmost d.order (function_of d from) level
+topmost-at d from depth level ok h f is = record { below = λ z w. by z w (cases_lt (depth_in d.order z) depth) }
+  where
+    at : depth_in d.order level ≡ depth
+    at = ap (depth_in d.order) is ∙ depth_in-slice_index d.order depth ok.order f.within
+
+    by : (z : ℕ) → IsWideAt d.order (function_of d from) z → ((depth_in d.order z < depth) ⊎ (depth ≤ depth_in d.order z)) → depth_in d.order level ≤ depth_in d.order z
+    by z w (inl l) = absurd (omega (arith, wide-width d from z ok h w, f.first (depth_in d.order z) l))
+    by z w (inr l) = omega (arith, at)
 
 pub not-wide : (d : Table) (from : ℕ) → IsTable d → IsNode d from → ((k : ℕ) → k < length d.order → width_at d from k ≤ 256) → IsWide d.order (function_of d from) → ⊥
 not-wide d from ok h few (variable, w) = absurd (omega (arith, wide-width d from variable ok h w, few (depth_in d.order variable) w.there))

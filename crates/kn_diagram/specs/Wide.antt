@@ -1,5 +1,5 @@
 -- Where a function is wide: too many different functions remain of it. Said by functions alone.
-use Rattle.std.specs.Prelude.{ℕ, ◌≡◌, ◌<◌, ◌==◌, Bool, true, false, if◌then◌else◌, List, [], ◌∷◌, length, map, nat_lt, slice_index_or}
+use Rattle.std.specs.Prelude.{ℕ, ◌≡◌, ◌<◌, ◌≤◌, ◌==◌, Bool, true, false, if◌then◌else◌, List, [], ◌∷◌, length, map, nat_lt, slice_index_or}
 use Rattle.std.specs.List.{AllByRecursion}
 use Rattle.kn_diagram.specs.declared.error.DiagramError.{DiagramError}
 use Rattle.kn_diagram.specs.declared.error.DiagramError.TheVariants.{Wide, Memory}
@@ -36,6 +36,10 @@ pub record IsWideAt (order : List ℕ) (f : (ℕ → Bool) → Bool) (variable :
   pub lengths : AllByRecursion (λ way. length way ≡ depth_in order variable) ways
   pub different : AllDiffer (map (remaining order f) ways)
   pub depend : AllByRecursion (λ way. DependsOn (remaining order f way) variable) ways
+
+-- Where the function is wide at all, it is so at this variable or further down.
+pub record IsTopmost (order : List ℕ) (f : (ℕ → Bool) → Bool) (variable : ℕ) : Type 0 where
+  pub below : (other : ℕ) → IsWideAt order f other → depth_in order variable ≤ depth_in order other
 
 -- A function is wide where it is wide at some variable.
 abbrev pub IsWide : List ℕ → ((ℕ → Bool) → Bool) → Type 0

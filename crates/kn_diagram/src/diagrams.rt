@@ -3,7 +3,7 @@ ghost use Rattle.std.specs.List.{IsDistinct, AllByRecursion, list_any};
 ghost use Rattle.kn_logic.specs.Constraints.{is_clause};
 ghost use Rattle.kn_logic.specs.Assignments.{value_of};
 ghost use Rattle.kn_diagram.specs.Widths.{IsWidest};
-ghost use Rattle.kn_diagram.specs.Wide.{IfWide, IsWideAt, IsWide, DependsOn, Ignores};
+ghost use Rattle.kn_diagram.specs.Wide.{IfWide, IsWideAt, IsTopmost, IsWide, DependsOn, Ignores};
 ghost use Rattle.kn_diagram.specs.Traces.{connective, AreExplained, Gains, IsRight, Explains};
 ghost use Rattle.kn_diagram.specs.Diagrams.{IsNode, function_of, depth_of, depth_in, is_true_by, asks, IsBranch, IsCanonical, HasNodes, IsTable, IsSplit, IsMade, Keeps};
 
@@ -85,7 +85,7 @@ impl Diagrams {
         Ok(node)
     }
 
-    /// The conjunction of both functions.
+    /// The conjunction of both functions; `Wide` exactly where it is wide (`specs/Wide.antt`).
     pub fn and(&mut self, f: Node, g: Node, trace: &mut Trace) -> Result<Node, DiagramError>
         requires f_there { IsNode self.old f }
         requires g_there { IsNode self.old g }
@@ -96,13 +96,13 @@ impl Diagrams {
         ensures traced { IfOk result (λ w. Explains (λ a b. a && b) self.new trace.old trace.new (record { u = f; v = g; w = w })) }
         ensures err { OnErr result (trace.new ≡ trace.old) }
         ensures wide { IfErr result (λ e. IfWide e (λ level. IsWideAt self.old.order (λ v. function_of self.old f v && function_of self.old g v) level)) }
+        ensures topmost { IfErr result (λ e. IfWide e (λ level. IsTopmost self.old.order (λ v. function_of self.old f v && function_of self.old g v) level)) }
         ensures narrow { IfOk result (λ w. IsWide self.new.order (function_of self.new w) → ⊥) }
-        ensures table { OnOk result (IsTable self.new) }
     {
         self.traced(Joint::And, f, g, trace)
     }
 
-    /// The disjunction of both functions.
+    /// The disjunction of both functions; `Wide` exactly where it is wide (`specs/Wide.antt`).
     pub fn or(&mut self, f: Node, g: Node, trace: &mut Trace) -> Result<Node, DiagramError>
         requires f_there { IsNode self.old f }
         requires g_there { IsNode self.old g }
@@ -113,10 +113,21 @@ impl Diagrams {
         ensures traced { IfOk result (λ w. Explains (λ a b. a || b) self.new trace.old trace.new (record { u = f; v = g; w = w })) }
         ensures err { OnErr result (trace.new ≡ trace.old) }
         ensures wide { IfErr result (λ e. IfWide e (λ level. IsWideAt self.old.order (λ v. function_of self.old f v || function_of self.old g v) level)) }
+        ensures topmost { IfErr result (λ e. IfWide e (λ level. IsTopmost self.old.order (λ v. function_of self.old f v || function_of self.old g v) level)) }
         ensures narrow { IfOk result (λ w. IsWide self.new.order (function_of self.new w) → ⊥) }
-        ensures table { OnOk result (IsTable self.new) }
     {
         self.traced(Joint::Or, f, g, trace)
+    }
+
+    /// The disjunction of both functions, be it wide or not, by way of the results that were noted before.
+    pub fn or_by(&mut self, f: Node, g: Node, memo: &mut Memo) -> Result<Node, NoMemory>
+        requires f_there { IsNode self.old f }
+        requires g_there { IsNode self.old g }
+        requires explained { AreExplained (λ a b. a || b) self.old [] memo.old }
+        ensures kept { Keeps self.old self.new }
+        ensures joined { IfOk result (λ w. Gains (λ a b. a || b) self.new memo.old memo.new f g w) }
+    {
+        self.join(Joint::Or, f, g, memo)
     }
 
     /// The variable of a node, and its nodes for where the variable is true and where it is false;
@@ -210,12 +221,12 @@ impl Diagrams {
         self.rows.len() as u64 + 2
     }
 
-    /// An error exactly where the function of a node is wide, which names the topmost variable where it is.
+    /// An error exactly where the function of a node is wide: it names the topmost variable where it is.
     pub fn refuse_wide(&self, w: Node) -> Result<(), DiagramError>
         requires { IsNode self.now w }
         ensures wide { IfErr result (λ e. IfWide e (λ level. IsWideAt self.now.order (function_of self.now w) level)) }
+        ensures topmost { IfErr result (λ e. IfWide e (λ level. IsTopmost self.now.order (function_of self.now w) level)) }
         ensures narrow { OnOk result (IsWide self.now.order (function_of self.now w) → ⊥) }
-        ensures table { IsTable self.now }
     {
         if let Some(depth) = width::first_wide(*self.order.allocator(), self, w)? {
             let level = self.order[depth];
@@ -320,8 +331,8 @@ impl Diagrams {
         ensures explained { IfOk result (λ w. Explains (connective joint) self.new trace.old trace.new (record { u = f; v = g; w = w })) }
         ensures err { OnErr result (trace.new ≡ trace.old) }
         ensures wide { IfErr result (λ e. IfWide e (λ level. IsWideAt self.old.order (λ v. connective joint (function_of self.old f v) (function_of self.old g v)) level)) }
+        ensures topmost { IfErr result (λ e. IfWide e (λ level. IsTopmost self.old.order (λ v. connective joint (function_of self.old f v) (function_of self.old g v)) level)) }
         ensures narrow { IfOk result (λ w. IsWide self.new.order (function_of self.new w) → ⊥) }
-        ensures table { OnOk result (IsTable self.new) }
     {
         let mut memo = Memo::new(*self.order.allocator());
         let w = self.join(joint, f, g, &mut memo)?;

@@ -3,7 +3,8 @@
 //! (`specs/Diagrams.antt`) and speaks of its nodes by what they mean, `function_of`, by how far down the
 //! order they stand, `depth_of`, and by `IsNode`, which each node handed in meets. Two nodes of one
 //! `Diagrams` are equal exactly where their functions are: `nodes` hands this out. What a trace holds is
-//! in `specs/Traces.antt`, what `widest` counts in `specs/Widths.antt`.
+//! in `specs/Traces.antt`, what `widest` counts in `specs/Widths.antt`, and where a function is wide in
+//! `specs/Wide.antt`: `and` and `or` refuse such a result, and no other.
 #![tactic(auto)]
 
 mod diagrams;
@@ -11,6 +12,7 @@ mod error;
 mod joint;
 mod memo;
 mod node;
+mod node_set;
 mod rows;
 #[cfg(test)]
 mod tests;

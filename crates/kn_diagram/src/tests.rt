@@ -1,5 +1,6 @@
-ghost use Rattle.std.specs.Prelude.{ℕ, ◌≡◌, ◌<◌, ◌≤◌, [], ◌∷◌, IfOk};
-ghost use Rattle.kn_diagram.specs.Diagrams.{IsNode, Keeps};
+ghost use Rattle.std.specs.Prelude.{ℕ, ◌≡◌, ◌<◌, ◌≤◌, [], ◌∷◌, length, IfOk};
+ghost use Rattle.std.specs.List.{range_with_len};
+ghost use Rattle.kn_diagram.specs.Diagrams.{IsNode, Keeps, depth_in};
 
 use crate::{DiagramError, Diagrams, Node, Trace};
 use kn_logic::{Assignment, Constraint, Lit};
@@ -177,5 +178,104 @@ fn traced(alloc: Global) -> Result<(usize, bool), DiagramError> {
 fn calls_on_a_small_diagram(rt: HostRuntime) -> Result<(), Fail> {
     assert_eq!(rt; small(rt.alloc()), Ok((true, true, 1, 4)));
     assert_eq!(rt; traced(rt.alloc()), Ok((3, true)));
+    Ok(())
+}
+
+// Diagrams over a switch and two groups of eight variables.
+fn seventeen(alloc: Global) -> Result<Diagrams, DiagramError>
+    ensures { IfOk result (λ d. d.order ≡ range_with_len 1 17) }
+{
+    Ok(Diagrams::new(
+        alloc,
+        &[1, 2, 3, 4, 5, 6, 7, 8, 9, 10, 11, 12, 13, 14, 15, 16, 17],
+    )?)
+}
+
+// "The one or the other."
+fn either(alloc: Global, d: &mut Diagrams, one: Lit, other: Lit) -> Result<Node, DiagramError>
+    requires one { depth_in d.old.order one.variable < length d.old.order }
+    requires other { depth_in d.old.order other.variable < length d.old.order }
+    ensures kept { Keeps d.old d.new }
+    ensures node { IfOk result (λ w. IsNode d.new w) }
+{
+    let lits = Vec::from_slice(alloc, &[one, other])?;
+    Ok(d.of_clause(&Constraint::new(1, lits))?)
+}
+
+// The function, and "this variable is like its fellow of the second group".
+fn and_like(alloc: Global, d: &mut Diagrams, f: Node, var: u64) -> Result<Node, DiagramError>
+    requires order { d.old.order ≡ range_with_len 1 17 }
+    requires there { IsNode d.old f }
+    requires first { 1 ≤ var }
+    requires last { var < 10 }
+    ensures order { d.new.order ≡ range_with_len 1 17 }
+    ensures node { IfOk result (λ w. IsNode d.new w) }
+{
+    let mut unread = Trace::new(alloc);
+    let up = either(alloc, d, Lit::new(var, false), Lit::new(var + 8, true))?;
+    let less = d.and(f, up, &mut unread)?;
+    let down = either(alloc, d, Lit::new(var, true), Lit::new(var + 8, false))?;
+    d.and(less, down, &mut unread)
+}
+
+// "Each of the first group is like its fellow of the second." Below the first group there remain 256
+// functions of it.
+fn alike(alloc: Global, d: &mut Diagrams) -> Result<Node, DiagramError>
+    requires { d.old.order ≡ range_with_len 1 17 }
+    ensures order { d.new.order ≡ range_with_len 1 17 }
+    ensures node { IfOk result (λ w. IsNode d.new w) }
+{
+    let mut node = Node::TRUE;
+    for var in 2..10u64 {
+        node = and_like(alloc, d, node, var)?;
+    }
+    Ok(node)
+}
+
+// "If the switch, then they are alike, else the first of the second group": 257 functions remain.
+fn switched(
+    alloc: Global,
+    d: &mut Diagrams,
+    alike: Node,
+    conjunction: bool,
+) -> Result<Node, DiagramError>
+    requires order { d.old.order ≡ range_with_len 1 17 }
+    requires there { IsNode d.old alike }
+{
+    let on = either(alloc, d, Lit::new(1, true), Lit::new(1, true))?;
+    let off = either(alloc, d, Lit::new(1, false), Lit::new(1, false))?;
+    let first = either(alloc, d, Lit::new(10, true), Lit::new(10, true))?;
+    let mut unread = Trace::new(alloc);
+    if conjunction {
+        let left = d.or(off, alike, &mut unread)?;
+        let right = d.or(on, first, &mut unread)?;
+        d.and(left, right, &mut unread)
+    } else {
+        let left = d.and(on, alike, &mut unread)?;
+        let right = d.and(off, first, &mut unread)?;
+        d.or(left, right, &mut unread)
+    }
+}
+
+// How wide the functions are of which 256 and 257 functions remain.
+fn around_the_bound(
+    alloc: Global,
+    conjunction: bool,
+) -> Result<(u64, Result<Node, DiagramError>), DiagramError> {
+    let mut d = seventeen(alloc)?;
+    let alike = alike(alloc, &mut d)?;
+    let narrow = d.widest(alike)?;
+    Ok((narrow, switched(alloc, &mut d, alike, conjunction)))
+}
+
+#[test]
+fn wide_from_257_functions(rt: HostRuntime) -> Result<(), Fail> {
+    for conjunction in [true, false] {
+        assert_eq!(rt;
+            around_the_bound(rt.alloc(), conjunction),
+            Ok((256, Err(DiagramError::Wide { level: 10 }))),
+            "{conjunction}"
+        );
+    }
     Ok(())
 }
