@@ -52,14 +52,6 @@ impl Trace {
         self.entries.append(entries)
     }
 
-    /// Puts entries behind those that are there. Where memory runs out, none has come.
-    pub fn extend(&mut self, entries: &[Met]) -> Result<(), NoMemory>
-        ensures ok { OnOk result (self.new ≡ self.old ++ entries.now) }
-        ensures err { OnErr result (self.new ≡ self.old) }
-    {
-        self.entries.extend_from_slice(entries)
-    }
-
     /// Drops all entries but so many, which is at most how many there are.
     pub fn truncate(&mut self, len: usize)
         ensures { self.new ≡ take len self.old }

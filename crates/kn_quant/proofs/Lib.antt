@@ -1,6 +1,4 @@
-pub mod TraceLemmas
 pub mod SettleLemmas
-pub mod QuantWide
 pub mod ProgressLemmas
 pub mod JoinedLemmas
 pub mod OrderLemmas

@@ -10,7 +10,7 @@ use Rattle.kn_diagram.specs.declared.error.DiagramError.{DiagramError}
 use Rattle.kn_diagram.specs.declared.error.DiagramError.TheVariants as Diagram
 use Rattle.kn_diagram.specs.Diagrams.{Table, IsNode, function_of, Keeps}
 use Rattle.kn_diagram.specs.Traces.{IsRight, AreExplained, Explains}
-use Rattle.kn_diagram.specs.Wide.{IsWide, IsWideAt, IfWide}
+use Rattle.kn_diagram.specs.Wide.{IsWide, IsWideAt, IsTopmost, IfWide}
 use Rattle.kn_diagram.proofs.JoinLemmas.{AreExplained-kept, IsRight-kept}
 use Rattle.kn_diagram.proofs.NodeLemmas.{Keeps-self, Keeps-along}
 use Rattle.kn_quant.specs.declared.stage.Stage.{Stage}
@@ -20,7 +20,7 @@ use Rattle.kn_quant.specs.declared.error.QuantError.{QuantError}
 use Rattle.kn_quant.specs.declared.error.QuantError.TheVariants.{Wide, Memory}
 use Rattle.kn_quant.specs.Quantified.{some_value, entry_of, IsQuantified, AreAccounted, Quantifies}
 use Rattle.kn_quant.specs.Runs.{Function, Step, Join, Quantify, given, AreNarrow, clause_function}
-use Rattle.kn_quant.specs.Eliminations.{Progress, node_of, has_node, IsConjunction, IsQuantification, IsStage, AreStages, AreBuckets, step_of, steps_of, buckets_of, IsClauseAt, IsNoClause, HasClauses, IsProgress, Makes, IsGiven, StopsIn, IfWideStage, error_after, Takes, IsPiece, ArePieces, functions_of}
+use Rattle.kn_quant.specs.Eliminations.{Eliminated, IsElimination, Progress, node_of, has_node, IsConjunction, IsQuantification, IsStage, AreStages, AreBuckets, step_of, steps_of, buckets_of, IsClauseAt, IsNoClause, HasClauses, IsProgress, Makes, IsGiven, StopsIn, IfWideStage, error_after, Takes, IsPiece, ArePieces, functions_of}
 use Rattle.kn_quant.proofs.SettleLemmas.{IsQuantified-kept, AreAccounted-kept}
 
 explained-last : (join : Bool → Bool → Bool) (d : Table) (before ms : List Met) (m : Met) → AreExplained join d before (ms ++ m ∷ []) → IsRight join d m
@@ -54,6 +54,14 @@ node-there d before (s ∷ ss) n h e = by (or_cases (node_of s == n) (has_node s
     by : ((node_of s == n) ≡ true) ⊎ (has_node ss n ≡ true) → (has_node ss n ≡ true → IsNode d n) → IsNode d n
     by (inl t) rest = subst (IsNode d) (eqb-true (node_of s) n t) (stage-node d before s h.0)
     by (inr t) rest = rest t
+
+-- the result's node is there
+pub result-there : (e : Eliminated) → IsElimination e → IsNode e.table e.result
+result-there e h = by h.result
+  where
+    by : ((e.stages ≡ []) × (e.result ≡ 1)) ⊎ (has_node e.stages e.result ≡ true) → IsNode e.table e.result
+    by (inl (a, one)) = omega arith
+    by (inr has) = node-there e.table [] e.stages e.result h.stages has
 
 stage-kept : (old new : Table) (before : List Stage) (s : Stage) → Keeps old new → IsStage old before s → IsStage new before s
 stage-kept old new before (Clause taken node) k h = (k.nodes node h).there
@@ -256,9 +264,9 @@ adds-exists p d variable from node met halves h has k there means traced narrow 
 
 -- the stage behind what was made is wide
 pub stops-next : (p : Progress) (step : Step) (made : ℕ) (e : DiagramError) (error : QuantError) → IsProgress p → made ≡ length p.stages - p.taken → error ≡ error_after made e
-    → IfWide e (λ level. IsWideAt p.table.order (given step) level) → IfWideStage error (StopsIn p (step ∷ []))
-stops-next p step made Diagram.Memory error h n is w = subst (λ x. IfWideStage x (StopsIn p (step ∷ []))) (sym is) tt
-stops-next p step made (Diagram.Wide level) error h n is w =
+    → IfWide e (λ level. IsWideAt p.table.order (given step) level) → IfWide e (λ level. IsTopmost p.table.order (given step) level) → IfWideStage error (StopsIn p (step ∷ []))
+stops-next p step made Diagram.Memory error h n is w top = subst (λ x. IfWideStage x (StopsIn p (step ∷ []))) (sym is) tt
+stops-next p step made (Diagram.Wide level) error h n is w top =
     let nil = append-nil (steps_of p.table p.stages) in
     subst (λ x. IfWideStage x (StopsIn p (step ∷ []))) (sym is) (record {
       front = [];
@@ -268,6 +276,7 @@ stops-next p step made (Diagram.Wide level) error h n is w =
       count = omega (arith, n, h.count, ap length nil);
       narrow = subst (AreNarrow p.table.order) (sym nil) h.narrow;
       wide = w;
+      topmost = top;
     })
 
 -- a clause that is taken
@@ -345,6 +354,7 @@ stops-later old now xs ys own stage level m s =
       count = s.count ∙ ap (λ z. length z + 1) all;
       narrow = subst (λ o. AreNarrow o (steps_of old.table old.stages ++ (xs ++ s.front))) m.kept.order (subst (AreNarrow now.table.order) all s.narrow);
       wide = subst (λ o. IsWideAt o (given s.last) level) m.kept.order s.wide;
+      topmost = subst (λ o. IsTopmost o (given s.last) level) m.kept.order s.topmost;
     }
 
 pub stops-more : (p : Progress) (xs ys : List Step) (stage level : ℕ) → StopsIn p xs stage level → StopsIn p (xs ++ ys) stage level
@@ -356,6 +366,7 @@ stops-more p xs ys stage level s = record {
   count = s.count;
   narrow = s.narrow;
   wide = s.wide;
+  topmost = s.topmost;
 }
 
 -- what holds of the stage that an error names implies what else

@@ -5,7 +5,7 @@ use Rattle.std.proofs.lemmas.Bool.{eq-eqb, or_left, or_right}
 use Rattle.std.proofs.Math.Seq.{drop-cons}
 use Rattle.kn_logic.specs.Groups.{Gathered, IsGroup, is_among}
 use Rattle.kn_diagram.specs.Diagrams.{function_of}
-use Rattle.kn_diagram.specs.Wide.{IsWideAt}
+use Rattle.kn_diagram.specs.Wide.{IsWideAt, IsTopmost}
 use Rattle.kn_quant.specs.Runs.{Function, Step, given, all_joins, Runs, Begins, order_of, clause_function, AreNarrow, IsFirstWide}
 use Rattle.kn_quant.specs.Eliminations.{Eliminated, Progress, steps_of, buckets_of, HasClauses, IsEliminationOf, StopsIn, ArePieces, functions_of, Gathers, Turns, TurnStops, Concludes, WorkStops}
 use Rattle.kn_quant.proofs.MeaningLemmas.{run-holds, holds-run, run-at-border}
@@ -69,6 +69,7 @@ first-wide g p ys pieces steps stage level h s b = record {
   count = s.count;
   narrow = subst (λ o. AreNarrow o (steps_of p.table p.stages ++ s.front)) h.order s.narrow;
   wide = subst (λ o. IsWideAt o (given s.last) level) h.order s.wide;
+  topmost = subst (λ o. IsTopmost o (given s.last) level) h.order s.topmost;
 }
 
 pub turn-first-wide : (g : Gathered) (p : Progress) (y : ℕ) (ys pieces : List ℕ) (stage level : ℕ) → InTurn g p (y ∷ ys) pieces → TurnStops p y pieces stage level → IsFirstWide g stage level

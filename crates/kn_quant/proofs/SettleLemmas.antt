@@ -5,11 +5,10 @@ use Rattle.std.proofs.lemmas.List.{append-nil}
 use Rattle.std.proofs.lemmas.Bool.{eqb-true, eq-eqb, ne_eqb, cond-true, cond-false, and_parts}
 use Rattle.kn_diagram.specs.declared.trace.Met.{Met}
 use Rattle.kn_diagram.specs.Diagrams.{Table, IsNode, function_of, depth_of, high_of, low_of, IsTable, IsKept, Keeps, IsBranch, AgreeFrom, depth_in}
-use Rattle.kn_diagram.specs.Traces.{found, has_pair, AreExplained, Explains}
-use Rattle.kn_diagram.proofs.NodeLemmas.{Keeps-along, depth_in-slice_index, slice_index-depth_in, function_of-below, canonical}
+use Rattle.kn_diagram.specs.Traces.{found, has_pair, AreExplained, Gains}
+use Rattle.kn_diagram.proofs.NodeLemmas.{Keeps-along, depth_in-slice_index, slice_index-depth_in, function_of-below}
 use Rattle.kn_diagram.proofs.JoinLemmas.{AreExplained-kept, found-more, found-other, found-own, has_pair-more}
 use Rattle.kn_quant.specs.Quantified.{with_value, some_value, entry_of, IsQuantified, IsAccounted, AreAccounted, Settles, Quantifies}
-use Rattle.kn_quant.proofs.TraceLemmas.{found-front, has_pair-behind, explained-append, found-is}
 
 pub IsQuantified-kept : (old new : Table) (variable u w : ℕ) → Keeps old new → IsQuantified old variable u w → IsQuantified new variable u w
 IsQuantified-kept old new variable u w k r =
@@ -44,18 +43,19 @@ AreAccounted-kept old new variable halves before (m ∷ ms) k h =
     (IsAccounted-kept old new variable halves before m k h.0, AreAccounted-kept old new variable halves (before ++ m ∷ []) ms k h.1)
 
 -- and while disjunctions come
-accounted-halves : (d : Table) (variable : ℕ) (halves more before ms : List Met) → AreAccounted d variable halves before ms → AreAccounted d variable (halves ++ more) before ms
-accounted-halves d variable halves more before [] h = tt
-accounted-halves d variable halves more before (m ∷ ms) h = (
+accounted-halves : (d : Table) (variable : ℕ) (halves more before ms : List Met) → ((p q x : ℕ) → found halves p q ≡ Some x → found more p q ≡ Some x)
+    → AreAccounted d variable halves before ms → AreAccounted d variable more before ms
+accounted-halves d variable halves more before [] same h = tt
+accounted-halves d variable halves more before (m ∷ ms) same h = (
   record {
     one = h.0.one;
     right = h.0.right;
     highs = h.0.highs;
     lows = h.0.lows;
-    joined = λ a. found-front halves more (high_of d m.u) (low_of d m.u) m.w (h.0.joined a);
+    joined = λ a. same (high_of d m.u) (low_of d m.u) m.w (h.0.joined a);
     below = h.0.below;
   },
-  accounted-halves d variable halves more (before ++ m ∷ []) ms h.1,
+  accounted-halves d variable halves more (before ++ m ∷ []) ms same h.1,
 )
 
 accounted-more : (d : Table) (variable : ℕ) (halves before ms : List Met) (m : Met) → AreAccounted d variable halves before ms → IsAccounted d variable halves (before ++ ms) m
@@ -181,60 +181,30 @@ branch-above d u variable own high low v b less =
     each false = refl
 
 -- a node of the variable, once its halves are joined
-pub settles-own : (d0 d1 : Table) (variable : ℕ) (ms halves more : List Met) (u own high low w : ℕ) → IsTable d0 → IsTable d1 → IsNode d0 u → IsBranch d0 u own high low
-    → depth_of d0 u ≡ depth_in d0.order variable → AreExplained (λ a b. a || b) d0 [] halves → AreAccounted d0 variable halves [] ms → found ms u u ≡ None
-    → Keeps d0 d1 → IsNode d1 w → min (depth_of d0 high) (depth_of d0 low) ≤ depth_of d1 w → ((v : ℕ → Bool) → function_of d1 w v ≡ (function_of d0 high v || function_of d0 low v))
-    → Explains (λ a b. a || b) d1 halves more (record { u = high; v = low; w = w })
-    → Settles d1 variable ms (ms ++ entry_of u w ∷ []) more u w
-settles-own d0 d1 variable ms halves more u own high low w ok new_ok there b at x h n k w_there deep means e =
-    settles-noted d1 variable ms ms more u w explained accounted
+pub settles-own : (d0 d1 : Table) (variable : ℕ) (ms halves more : List Met) (u own high low w : ℕ) → IsTable d0 → IsNode d0 u → IsBranch d0 u own high low
+    → depth_of d0 u ≡ depth_in d0.order variable → AreAccounted d0 variable halves [] ms → found ms u u ≡ None
+    → Keeps d0 d1 → Gains (λ a b. a || b) d1 halves more high low w → Settles d1 variable ms (ms ++ entry_of u w ∷ []) more u w
+settles-own d0 d1 variable ms halves more u own high low w ok there b at h n k g =
+    let uu = k.nodes u there in
+    let hh = k.nodes high b.high_there in
+    let ll = k.nodes low b.low_there in
+    let place = ap (λ o. depth_in o variable) k.order in
+    settles-noted d1 variable ms ms more u w g.explained
+    (accounted-halves d1 variable halves more [] ms g.same (AreAccounted-kept d0 d1 variable halves [] ms k h))
     (record {
       one = refl;
-      right = right;
+      right = record {
+        u_there = uu.there;
+        w_there = g.right.w_there;
+        depth_is = omega (arith, uu.depth, hh.depth, ll.depth, g.right.depth_is, b.above_high, b.above_low);
+        function = λ v. g.right.function v ∙ (λ i. hh.function v i || ll.function v i) ∙ branch-own d0 u variable own high low v ok b at
+            ∙ (λ i. some_value variable (λ t. sym (uu.function t) i) v);
+      };
       highs = λ a. absurd (omega (arith, uu.depth, at, place));
       lows = λ a. absurd (omega (arith, uu.depth, at, place));
-      joined = λ a. (λ i. found more (uu.high i) (uu.low i)) ∙ (λ i. found more (sym b.high_is i) (sym b.low_is i)) ∙ joined;
+      joined = λ a. (λ i. found more ((uu.high ∙ sym b.high_is) i) ((uu.low ∙ sym b.low_is) i)) ∙ g.noted;
       below = λ a. absurd (omega (arith, uu.depth, at, place));
-    }) n (λ p a. a) (λ p a b. b)
-  where
-    uu : IsKept d0 d1 u
-    uu = k.nodes u there
-
-    place : depth_in d1.order variable ≡ depth_in d0.order variable
-    place = ap (λ o. depth_in o variable) k.order
-
-    behind : List Met
-    behind = e.earlier ++ record { u = high; v = low; w = w } ∷ []
-
-    explained : AreExplained (λ a b. a || b) d1 [] more
-    explained = subst (AreExplained (λ a b. a || b) d1 []) (sym e.grown)
-        (explained-append (λ a b. a || b) d1 halves behind (AreExplained-kept (λ a b. a || b) d0 d1 [] halves k x) e.explained)
-
-    accounted : AreAccounted d1 variable more [] ms
-    accounted = subst (λ z. AreAccounted d1 variable z [] ms) (sym e.grown)
-        (accounted-halves d1 variable halves behind [] ms (AreAccounted-kept d0 d1 variable halves [] ms k h))
-
-    right : IsQuantified d1 variable u w
-    right = record {
-      u_there = uu.there;
-      w_there = w_there;
-      depth_is = omega (arith, uu.depth, deep, b.above_high, b.above_low);
-      function = λ v. means v ∙ branch-own d0 u variable own high low v ok b at ∙ (λ i. some_value variable (λ t. sym (uu.function t) i) v);
-    }
-
-    joined : found more high low ≡ Some w
-    joined =
-        let hh = k.nodes high b.high_there in
-        let ll = k.nodes low b.low_there in
-        found-is (λ a b. a || b) d1 more high low w (canonical d1 new_ok) explained
-        (ap (λ z. has_pair z high low) e.grown ∙ has_pair-behind halves behind high low (has_pair-behind e.earlier (record { u = high; v = low; w = w } ∷ []) high low (ap is_some (found-own high low w))))
-        (record {
-          u_there = hh.there;
-          v_there = ll.there;
-          w_there = w_there;
-          depth_is = omega (arith, hh.depth, ll.depth, deep);
-          function = λ v. means v ∙ (λ i. sym (hh.function v) i || sym (ll.function v) i);
-        })
+    }) n (λ p a. a) (λ p a c. c)
 
 -- a node above the variable, once both its nodes have their results
 pub settles-above : (d0 d1 d2 d3 : Table) (variable : ℕ) (m0 m1 m2 h1 h2 : List Met) (u own high low hw lw w : ℕ) → IsNode d0 u → IsBranch d0 u own high low

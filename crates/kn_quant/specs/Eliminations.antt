@@ -8,7 +8,7 @@ use Rattle.kn_diagram.specs.declared.error.DiagramError.{DiagramError}
 use Rattle.kn_diagram.specs.declared.error.DiagramError.TheVariants as Diagram
 use Rattle.kn_diagram.specs.Diagrams.{Table, IsNode, function_of, Keeps, depth_in}
 use Rattle.kn_diagram.specs.Traces.{Explains}
-use Rattle.kn_diagram.specs.Wide.{IsWideAt}
+use Rattle.kn_diagram.specs.Wide.{IsWideAt, IsTopmost}
 use Rattle.kn_quant.specs.declared.stage.Stage.{Stage}
 use Rattle.kn_quant.specs.declared.stage.Stage.TheVariants.{Clause, And, Exists}
 use Rattle.kn_quant.specs.declared.stage.Bucket.{Bucket}
@@ -158,6 +158,7 @@ pub record StopsIn (p : Progress) (steps : List Step) (stage level : ℕ) : Type
   pub count : stage ≡ length (steps_of p.table p.stages ++ front) + 1
   pub narrow : AreNarrow p.table.order (steps_of p.table p.stages ++ front)
   pub wide : IsWideAt p.table.order (given last) level
+  pub topmost : IsTopmost p.table.order (given last) level
 
 -- nodes of entries, as pieces
 abbrev pub IsPiece : Progress → ℕ → Type 0

@@ -1,4 +1,5 @@
 ghost use Rattle.std.specs.Prelude.{◌≡◌};
+ghost use Rattle.kn_diagram.specs.Diagrams.{IsNode};
 ghost use Rattle.kn_quant.specs.Eliminations.{IsElimination};
 
 use crate::{Bucket, Stage};
@@ -70,6 +71,7 @@ impl Elimination {
     /// The node of the result.
     pub fn result(&self) -> Node
         ensures value { result ≡ self.now.result }
+        ensures there { IsNode self.now.table result }
         ensures elimination { IsElimination self.now }
     {
         self.result

@@ -10,6 +10,8 @@ mod error;
 mod quantify;
 mod run;
 mod stage;
+#[cfg(test)]
+mod tests;
 mod work;
 
 pub use elimination::Elimination;

@@ -1,7 +1,7 @@
 ghost use Rattle.std.specs.Prelude.{ℕ, ◌≡◌, ◌<◌, ◌≤◌, ◌||◌, ◌++◌, Bool, [], length, OnOk, OnErr, IfOk, IfErr};
 ghost use Rattle.kn_diagram.specs.Diagrams.{IsNode, IsBranch, Keeps, depth_in, depth_of, function_of};
 ghost use Rattle.kn_diagram.specs.Traces.{AreExplained};
-ghost use Rattle.kn_diagram.specs.Wide.{IfWide, IsWideAt, IsWide};
+ghost use Rattle.kn_diagram.specs.Wide.{IfWide, IsWideAt, IsTopmost, IsWide};
 ghost use Rattle.kn_quant.specs.Quantified.{some_value, AreAccounted, Quantifies, Settles};
 
 use kn_diagram::{DiagramError, Diagrams, Memo, Node, Trace};
@@ -26,11 +26,12 @@ pub fn exists(
     ensures traced { IfOk result (λ w. Quantifies d.new var trace.old trace.new halves.old halves.new f w) }
     ensures err { OnErr result ((trace.new ≡ trace.old) × (halves.new ≡ halves.old)) }
     ensures wide { IfErr result (λ e. IfWide e (λ level. IsWideAt d.old.order (some_value var (function_of d.old f)) level)) }
+    ensures topmost { IfErr result (λ e. IfWide e (λ level. IsTopmost d.old.order (some_value var (function_of d.old f)) level)) }
     ensures narrow { IfOk result (λ w. IsWide d.new.order (function_of d.new w) → ⊥) }
 {
     let alloc = d.allocator();
     let mut memo = Memo::new(alloc);
-    let mut joined = Trace::new(alloc);
+    let mut joined = Memo::new(alloc);
     let place = d.place(var);
     let w = settle(d, f, var, place, &mut memo, &mut joined)?;
     d.refuse_wide(w)?;
@@ -45,8 +46,8 @@ fn settle(
     var: u64,
     place: usize,
     memo: &mut Memo,
-    joined: &mut Trace,
-) -> Result<Node, DiagramError>
+    joined: &mut Memo,
+) -> Result<Node, NoMemory>
     requires there { IsNode d.old u }
     requires place { place ≡ depth_in d.old.order var }
     requires within { place < length d.old.order }
@@ -54,7 +55,6 @@ fn settle(
     requires accounted { AreAccounted d.old var joined.old [] memo.old }
     ensures kept { Keeps d.old d.new }
     ensures settled { IfOk result (λ w. Settles d.new var memo.old memo.new joined.new u w) }
-    ensures wide { IfErr result (λ e. IfWide e (λ level. IsWideAt d.old.order (some_value var (function_of d.old u)) level)) }
 {
     if let Some(w) = memo.get(u, u) {
         return Ok(w);
@@ -66,7 +66,7 @@ fn settle(
     }
     let (above, high, low) = parts_of(d, u);
     if place == own {
-        let w = d.or(high, low, joined)?;
+        let w = d.or_by(high, low, joined)?;
         memo.insert(u, u, w)?;
         return Ok(w);
     }
@@ -90,13 +90,13 @@ fn parts_of(d: &Diagrams, u: Node) -> (u64, Node, Node)
 }
 
 // Puts the results and the disjunctions behind the two traces, or neither.
-fn write(memo: &Memo, joined: &Trace, trace: &mut Trace, halves: &mut Trace) -> Result<(), NoMemory>
+fn write(memo: &Memo, joined: &Memo, trace: &mut Trace, halves: &mut Trace) -> Result<(), NoMemory>
     ensures ok { OnOk result ((trace.new ≡ trace.old ++ memo.now) × (halves.new ≡ halves.old ++ joined.now)) }
     ensures err { OnErr result ((trace.new ≡ trace.old) × (halves.new ≡ halves.old)) }
 {
     let len = trace.met().len();
     memo.write(trace)?;
-    if let Err(error) = halves.extend(joined.met()) {
+    if let Err(error) = joined.write(halves) {
         trace.truncate(len);
         return Err(error);
     }

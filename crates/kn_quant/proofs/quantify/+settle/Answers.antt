@@ -1,12 +1,10 @@
 use Rattle.std.proofs.Common.{ℕ, ◌≡◌, ◌<◌, ◌≤◌, ◌⊎◌, inl, inr, true, false, sym, subst, arith, rules, None}
 use Rattle.std.proofs.lemmas.Bool.{cases_lt}
-use Rattle.std.proofs.lemmas.Result.{err_from_is_err_and}
 use Rattle.kn_diagram.specs.Diagrams.{depth_of, depth_in}
 use Rattle.kn_diagram.specs.Traces.{found}
 use Rattle.kn_diagram.proofs.NodeLemmas.{Keeps-self, Keeps-along, depth_of-constant}
 use Rattle.kn_quant.specs.Quantified.{Settles}
 use Rattle.kn_quant.proofs.SettleLemmas.{settles-known, settles-below, settles-own, settles-above}
-use Rattle.kn_quant.proofs.QuantWide.{child-wide, own-wide}
 use Rattle.kn_quant.proofs.quantify.+settle.Goals as goal
 
 above : (deep goal_deep own place : ℕ) → own ≡ deep → place ≡ goal_deep → own ≤ place → (place ≡ own → ⊥) → deep < goal_deep
@@ -30,38 +28,16 @@ parts_of-above-requires-clause-two t c = by (cases_lt c.args.u 2)
     by (inl low) = absurd (omega (arith, depth_of-constant c.args.d.now c.args.u low, c.depth-own.ensures.value, c.requires.place, c.requires.within))
     by (inr two) = two
 
-pub returns-in_err-w-clause-wide : goal.returns-in_err-w-clause-wide
-returns-in_err-w-clause-wide t c =
-    let p = err_from_is_err_and c.from_residual-in_err-w.result c.from_residual-in_err-w.ensures.1 in
-    rw (p.1, p.2) (own-wide c.args.d.now c.args.u c.args.var c.parts_of-above.result.0 c.parts_of-above.result.1 c.parts_of-above.result.2 c.in_err-w.field-0.0
-    c.depth-own.ensures.table c.parts_of-above.ensures (omega (arith, c.depth-own.ensures.value, c.requires.place)) c.in_err-w.ensures.wide)
-
 pub returns-then-place-own-2-clause-settled : goal.returns-then-place-own-2-clause-settled
 returns-then-place-own-2-clause-settled t c =
     let none : found c.args.memo.now c.args.u c.args.u ≡ None = search rules in
-    subst (λ after. Settles c.or.new.self c.args.var c.args.memo.now after c.or.new.trace c.args.u c.in_ok-w.w) (sym c.in_ok-insert-2.ensures)
-    (settles-own c.args.d.now c.or.new.self c.args.var c.args.memo.now c.args.joined.now c.or.new.trace c.args.u c.parts_of-above.result.0 c.parts_of-above.result.1 c.parts_of-above.result.2 c.in_ok-w.w
-    c.depth-own.ensures.table c.in_ok-w.ensures.table c.requires.there c.parts_of-above.ensures (omega (arith, c.depth-own.ensures.value, c.requires.place))
-    c.requires.explained c.requires.accounted none c.in_ok-w.ensures.kept c.in_ok-w.ensures.node c.in_ok-w.ensures.depth c.in_ok-w.ensures.function c.in_ok-w.ensures.traced)
-
-pub returns-in_err-high-clause-wide : goal.returns-in_err-high-clause-wide
-returns-in_err-high-clause-wide t c =
-    let p = err_from_is_err_and c.from_residual-in_err-high.result c.from_residual-in_err-high.ensures.1 in
-    rw (p.1, p.2) (child-wide c.args.d.now c.args.d.now c.args.u c.args.var c.parts_of-above.result.0 c.parts_of-above.result.1 c.parts_of-above.result.2 true c.in_err-high.field-0.0
-    c.depth-own.ensures.table c.parts_of-above.ensures.high_there c.parts_of-above.ensures
-    (above (depth_of c.args.d.now c.args.u) (depth_in c.args.d.now.order c.args.var) c.depth-own.result c.args.place c.depth-own.ensures.value c.requires.place c.if-place-own.false c.if-place-own-2.false)
-    (Keeps-self c.args.d.now) c.in_err-high.ensures.wide)
+    subst (λ after. Settles c.or_by.new.self c.args.var c.args.memo.now after c.or_by.new.memo c.args.u c.in_ok-w.w) (sym c.in_ok-insert-2.ensures)
+    (settles-own c.args.d.now c.or_by.new.self c.args.var c.args.memo.now c.args.joined.now c.or_by.new.memo c.args.u c.parts_of-above.result.0 c.parts_of-above.result.1 c.parts_of-above.result.2
+    c.in_ok-w.w c.depth-own.ensures.table c.requires.there c.parts_of-above.ensures (omega (arith, c.depth-own.ensures.value, c.requires.place)) c.requires.accounted none
+    c.or_by.ensures.kept c.in_ok-w.ensures.joined)
 
 pub returns-in_err-low-clause-kept : goal.returns-in_err-low-clause-kept
 returns-in_err-low-clause-kept t c = Keeps-along _ _ _ c.settle.ensures.kept c.settle-2.ensures.kept
-
-pub returns-in_err-low-clause-wide : goal.returns-in_err-low-clause-wide
-returns-in_err-low-clause-wide t c =
-    let p = err_from_is_err_and c.from_residual-in_err-low.result c.from_residual-in_err-low.ensures.1 in
-    rw (p.1, p.2) (child-wide c.args.d.now c.settle.new.d c.args.u c.args.var c.parts_of-above.result.0 c.parts_of-above.result.1 c.parts_of-above.result.2 false c.in_err-low.field-0.0
-    c.depth-own.ensures.table c.parts_of-above.ensures.low_there c.parts_of-above.ensures
-    (above (depth_of c.args.d.now c.args.u) (depth_in c.args.d.now.order c.args.var) c.depth-own.result c.args.place c.depth-own.ensures.value c.requires.place c.if-place-own.false c.if-place-own-2.false)
-    c.settle.ensures.kept c.in_err-low.ensures.wide)
 
 pub returns-in_err-w-2-clause-kept : goal.returns-in_err-w-2-clause-kept
 returns-in_err-w-2-clause-kept t c = Keeps-along _ _ _ (Keeps-along _ _ _ c.settle.ensures.kept c.settle-2.ensures.kept) c.make.ensures.kept
