@@ -5,7 +5,7 @@ use Rattle.std.proofs.lemmas.Cmp.{nat_eq_equiv}
 use Rattle.std.proofs.lemmas.Grind.{get_or_default_zero}
 use Rattle.std.proofs.lemmas.Map.Made.{length-le_from_is_member}
 use Rattle.std.proofs.lemmas.List.{length-map}
-use Rattle.std.proofs.lemmas.Bool.{eqb-true, eqb-false, eq-eqb, ne_eqb, cond-true, cond-false, and_parts, or_cases, or_left, or_right, cases_eq, cases_lt}
+use Rattle.std.proofs.lemmas.Bool.{eqb-true, eqb-false, eq-eqb, ne_eqb, cond-true, cond-false, and_parts, or_cases, cases_eq, cases_lt}
 use Rattle.kn_diagram.specs.Diagrams.{Row, Table, IsNode, row_in, value_in, function_of, depth_of, high_of, low_of, IsTable, depth_in, AgreeFrom}
 use Rattle.kn_diagram.specs.Widths.{reaches, reached_below, width_at, IsFirstWide}
 use Rattle.kn_diagram.specs.Wide.{remaining, Differ, AllDiffer, DependsOn, IsWideAt, IsTopmost, IsWide}

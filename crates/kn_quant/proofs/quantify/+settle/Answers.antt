@@ -1,8 +1,8 @@
-use Rattle.std.proofs.Common.{ℕ, ◌≡◌, ◌<◌, ◌≤◌, ◌⊎◌, inl, inr, true, false, sym, subst, arith, rules, None}
+use Rattle.std.proofs.Common.{ℕ, ◌≡◌, ◌<◌, ◌≤◌, ◌⊎◌, inl, inr, sym, subst, arith, rules, None}
 use Rattle.std.proofs.lemmas.Bool.{cases_lt}
 use Rattle.kn_diagram.specs.Diagrams.{depth_of, depth_in}
 use Rattle.kn_diagram.specs.Traces.{found}
-use Rattle.kn_diagram.proofs.NodeLemmas.{Keeps-self, Keeps-along, depth_of-constant}
+use Rattle.kn_diagram.proofs.NodeLemmas.{Keeps-along, depth_of-constant}
 use Rattle.kn_quant.specs.Quantified.{Settles}
 use Rattle.kn_quant.proofs.SettleLemmas.{settles-known, settles-below, settles-own, settles-above}
 use Rattle.kn_quant.proofs.quantify.+settle.Goals as goal
