@@ -11,7 +11,7 @@ use Rattle.kn_diagram.specs.Traces.{found, has_pair, connective, absorbing, neut
 use Rattle.kn_diagram.proofs.NodeLemmas.{Keeps-along, function_of-constant}
 
 -- Entries stay right and explained while nodes come.
-IsRight-kept : (join : Bool → Bool → Bool) (old new : Table) (m : Met) → Keeps old new → IsRight join old m → IsRight join new m
+pub IsRight-kept : (join : Bool → Bool → Bool) (old new : Table) (m : Met) → Keeps old new → IsRight join old m → IsRight join new m
 IsRight-kept join old new m k r =
     let u = k.nodes m.u r.u_there in
     let v = k.nodes m.v r.v_there in
@@ -30,7 +30,7 @@ high_at-kept old new depth node k h = let p = k.nodes node h in λ i. if p.depth
 low_at-kept : (old new : Table) (depth node : ℕ) → Keeps old new → IsNode old node → low_at new depth node ≡ low_at old depth node
 low_at-kept old new depth node k h = let p = k.nodes node h in λ i. if p.depth i == depth then p.low i else node
 
-IsExplained-kept : (join : Bool → Bool → Bool) (old new : Table) (before : List Met) (m : Met) → Keeps old new → IsExplained join old before m → IsExplained join new before m
+pub IsExplained-kept : (join : Bool → Bool → Bool) (old new : Table) (before : List Met) (m : Met) → Keeps old new → IsExplained join old before m → IsExplained join new before m
 IsExplained-kept join old new before m k e =
     let u = k.nodes m.u e.right.u_there in
     let v = k.nodes m.v e.right.v_there in
@@ -56,7 +56,7 @@ AreExplained-more join d before (x ∷ ms) m h e =
     (h.0, AreExplained-more join d (before ++ x ∷ []) ms m h.1 (subst (λ b. IsExplained join d b m) (sym (append_assoc before (x ∷ []) ms)) e))
 
 -- the entry that is found is right
-found-right : (join : Bool → Bool → Bool) (d : Table) (before ms : List Met) (u v w : ℕ) → AreExplained join d before ms → found ms u v ≡ Some w
+pub found-right : (join : Bool → Bool → Bool) (d : Table) (before ms : List Met) (u v w : ℕ) → AreExplained join d before ms → found ms u v ≡ Some w
     → IsRight join d (record { u = u; v = v; w = w })
 found-right join d before [] u v w h e = absurd (cc)
 found-right join d before (m ∷ ms) u v w h e = by ((u == m.u) && (v == m.v)) refl (found-right join d (before ++ m ∷ []) ms u v w h.1)
@@ -71,7 +71,7 @@ found-right join d before (m ∷ ms) u v w h e = by ((u == m.u) && (v == m.v)) r
         subst (IsRight join d) whole h.0.right
     by false t rest = rest (sym (cond-false ((u == m.u) && (v == m.v)) (Some m.w) (found ms u v) t) ∙ e)
 
-found-more : (ms : List Met) (m : Met) (u v : ℕ) → found ms u v ≡ None → found (ms ++ m ∷ []) u v ≡ found (m ∷ []) u v
+pub found-more : (ms : List Met) (m : Met) (u v : ℕ) → found ms u v ≡ None → found (ms ++ m ∷ []) u v ≡ found (m ∷ []) u v
 found-more [] m u v h = refl
 found-more (x ∷ ms) m u v h = by ((u == x.u) && (v == x.v)) refl (found-more ms m u v)
   where
@@ -82,7 +82,7 @@ found-more (x ∷ ms) m u v h = by ((u == x.u) && (v == x.v)) refl (found-more m
         cond-false ((u == x.u) && (v == x.v)) (Some x.w) (found (ms ++ m ∷ []) u v) t
         ∙ rest (sym (cond-false ((u == x.u) && (v == x.v)) (Some x.w) (found ms u v) t) ∙ h)
 
-has_pair-more : (ms : List Met) (m : Met) (u v : ℕ) → has_pair ms u v ≡ true → has_pair (ms ++ m ∷ []) u v ≡ true
+pub has_pair-more : (ms : List Met) (m : Met) (u v : ℕ) → has_pair ms u v ≡ true → has_pair (ms ++ m ∷ []) u v ≡ true
 has_pair-more [] m u v h = absurd (true≢false (sym h))
 has_pair-more (x ∷ ms) m u v h = by ((u == x.u) && (v == x.v)) refl (has_pair-more ms m u v)
   where
@@ -93,7 +93,20 @@ has_pair-more (x ∷ ms) m u v h = by ((u == x.u) && (v == x.v)) refl (has_pair-
         ap is_some (cond-false ((u == x.u) && (v == x.v)) (Some x.w) (found (ms ++ m ∷ []) u v) t)
         ∙ rest (sym (ap is_some (cond-false ((u == x.u) && (v == x.v)) (Some x.w) (found ms u v) t)) ∙ h)
 
-found-other : (f g w p q : ℕ) → f + g < p + q → found (record { u = f; v = g; w = w } ∷ []) p q ≡ None
+-- the result that is found is found among more entries
+pub found-front : (ms more : List Met) (u v w : ℕ) → found ms u v ≡ Some w → found (ms ++ more) u v ≡ Some w
+found-front [] more u v w h = let e : None ≡ Some w = h in absurd (cc)
+found-front (x ∷ ms) more u v w h = by ((u == x.u) && (v == x.v)) refl (found-front ms more u v w)
+  where
+    by : (b : Bool) → ((u == x.u) && (v == x.v)) ≡ b → (found ms u v ≡ Some w → found (ms ++ more) u v ≡ Some w) → found (x ∷ ms ++ more) u v ≡ Some w
+    by true t rest =
+        cond-true ((u == x.u) && (v == x.v)) (Some x.w) (found (ms ++ more) u v) t
+        ∙ sym (cond-true ((u == x.u) && (v == x.v)) (Some x.w) (found ms u v) t) ∙ h
+    by false t rest =
+        cond-false ((u == x.u) && (v == x.v)) (Some x.w) (found (ms ++ more) u v) t
+        ∙ rest (sym (cond-false ((u == x.u) && (v == x.v)) (Some x.w) (found ms u v) t) ∙ h)
+
+pub found-other : (f g w p q : ℕ) → f + g < p + q → found (record { u = f; v = g; w = w } ∷ []) p q ≡ None
 found-other f g w p q h = by ((p == f) && (q == g)) refl
   where
     by : (b : Bool) → ((p == f) && (q == g)) ≡ b → found (record { u = f; v = g; w = w } ∷ []) p q ≡ None
@@ -104,7 +117,7 @@ found-other f g w p q h = by ((p == f) && (q == g)) refl
         absurd (omega (arith, a, b))
     by false t = cond-false ((p == f) && (q == g)) (Some w) None t
 
-found-own : (f g w : ℕ) → found (record { u = f; v = g; w = w } ∷ []) f g ≡ Some w
+pub found-own : (f g w : ℕ) → found (record { u = f; v = g; w = w } ∷ []) f g ≡ Some w
 found-own f g w = cond-true ((f == f) && (g == g)) (Some w) None (ap (λ b. b && (g == g)) (eq-eqb f f refl) ∙ eq-eqb g g refl)
 
 -- a pair that was met before
@@ -114,6 +127,7 @@ Gains-known join d ms f g w h e = record {
   explained = h;
   noted = e;
   kept = λ p q a. a;
+  same = λ p q x a. a;
   absent = λ p q a b. b;
   last = λ n. let some : Some w ≡ None = sym e ∙ n in absurd (cc);
 }
@@ -122,13 +136,15 @@ Gains-known join d ms f g w h e = record {
 Gains-noted : (join : Bool → Bool → Bool) (d : Table) (before ms : List Met) (f g w : ℕ) → AreExplained join d [] ms
     → IsExplained join d ms (record { u = f; v = g; w = w }) → found ms f g ≡ None
     → ((p q : ℕ) → has_pair before p q ≡ true → has_pair ms p q ≡ true)
+    → ((p q x : ℕ) → found before p q ≡ Some x → found ms p q ≡ Some x)
     → ((p q : ℕ) → f + g < p + q → found before p q ≡ None → found ms p q ≡ None)
     → Gains join d before (ms ++ record { u = f; v = g; w = w } ∷ []) f g w
-Gains-noted join d before ms f g w h e n kept absent = record {
+Gains-noted join d before ms f g w h e n kept same absent = record {
   right = e.right;
   explained = AreExplained-more join d [] ms (record { u = f; v = g; w = w }) h e;
   noted = found-more ms (record { u = f; v = g; w = w }) f g n ∙ found-own f g w;
   kept = λ p q a. has_pair-more ms (record { u = f; v = g; w = w }) p q (kept p q a);
+  same = λ p q x a. found-front ms (record { u = f; v = g; w = w } ∷ []) p q x (same p q x a);
   absent = λ p q a b. found-more ms (record { u = f; v = g; w = w }) p q (absent p q a b) ∙ found-other f g w p q a;
   last = λ z. (ms, refl);
 }
@@ -161,6 +177,7 @@ Gains-open join d0 d1 d2 d3 m0 m1 m2 f g depth fh fl gh gl h l w at nf ng sf sg 
     })
     (g2.absent f g less_low (g1.absent f g less_high fresh))
     (λ p q a. g2.kept p q (g1.kept p q a))
+    (λ p q x a. g2.same p q x (g1.same p q x a))
     (λ p q a b. g2.absent p q (omega (arith, less_low, a)) (g1.absent p q (omega (arith, less_high, a)) b))
   where
     k02 : Keeps d0 d2
@@ -333,7 +350,7 @@ decided-none joint f g e =
 pub Gains-decided : (joint : Joint) (d : Table) (ms : List Met) (f g w : ℕ) → IsNode d f → IsNode d g → AreExplained (connective joint) d [] ms → found ms f g ≡ None
     → decided joint f g ≡ Some w → Gains (connective joint) d ms (ms ++ record { u = f; v = g; w = w } ∷ []) f g w
 Gains-decided joint d ms f g w nf ng h n e =
-    Gains-noted (connective joint) d ms ms f g w h (decided-explained joint d ms f g w nf ng e) n (λ p q a. a) (λ p q a b. b)
+    Gains-noted (connective joint) d ms ms f g w h (decided-explained joint d ms f g w nf ng e) n (λ p q a. a) (λ p q x a. a) (λ p q a b. b)
 
 -- the entries of a call that began with none explain their last
 pub Explains-gained : (join : Bool → Bool → Bool) (d : Table) (after old new : List Met) (f g w : ℕ) → Gains join d [] after f g w → new ≡ old ++ after

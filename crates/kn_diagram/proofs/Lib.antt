@@ -9,4 +9,5 @@ pub mod CountLemmas
 pub mod ReachLemmas
 pub mod WayLemmas
 pub mod WideLemmas
+pub mod DependLemmas
 pub mod TestLemmas

@@ -18,7 +18,7 @@ use Rattle.kn_diagram.proofs.WayLemmas.{down_in, over, down_in-leads, way-to}
 abbrev pub HangsBelow : ℕ → ((ℕ → Bool) → Bool) → Type 0
 HangsBelow n f = (t s : ℕ → Bool) → ((k : ℕ) → k < n → t k ≡ s k) → f t ≡ f s
 
-equal-or-not : (a b : Bool) → (a ≡ b) ⊎ (a ≡ b → ⊥)
+pub equal-or-not : (a b : Bool) → (a ≡ b) ⊎ (a ≡ b → ⊥)
 equal-or-not true true = inl refl
 equal-or-not false false = inl refl
 equal-or-not true false = inr true≢false
@@ -176,7 +176,7 @@ pub record Finds (d : Table) (from variable : ℕ) (way : List Bool) : Type 0 wh
   pub there : IsNode d (down d from way)
   pub function : function_of d (down d from way) ≡ remaining d.order (function_of d from) way
 
-way-finds : (d : Table) (from variable : ℕ) (way : List Bool) → IsTable d → IsNode d from → depth_in d.order variable < length d.order
+pub way-finds : (d : Table) (from variable : ℕ) (way : List Bool) → IsTable d → IsNode d from → depth_in d.order variable < length d.order
     → length way ≡ depth_in d.order variable → DependsOn (remaining d.order (function_of d from) way) variable → Finds d from variable way
 way-finds d from variable way ok h within len depends =
     let l = leads d from way ok h (omega arith) in
@@ -247,11 +247,11 @@ abbrev pub way_of : ℕ → (ℕ → Bool) → List Bool
 way_of zero t = []
 way_of (suc n) t = t 0 ∷ way_of n (λ k. t (suc k))
 
-length-way_of : (n : ℕ) (t : ℕ → Bool) → length (way_of n t) ≡ n
+pub length-way_of : (n : ℕ) (t : ℕ → Bool) → length (way_of n t) ≡ n
 length-way_of zero t = refl
 length-way_of (suc n) t = omega (arith, length-way_of n (λ k. t (suc k)))
 
-way_of-at : (n : ℕ) (t : ℕ → Bool) (k : ℕ) → k < n → slice_index_or (way_of n t) k false ≡ t k
+pub way_of-at : (n : ℕ) (t : ℕ → Bool) (k : ℕ) → k < n → slice_index_or (way_of n t) k false ≡ t k
 way_of-at zero t k h = absurd (omega arith)
 way_of-at (suc n) t zero h = refl
 way_of-at (suc n) t (suc k) h = way_of-at n (λ k. t (suc k)) k (omega arith)

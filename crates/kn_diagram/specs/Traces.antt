@@ -74,5 +74,6 @@ pub record Gains (join : Bool → Bool → Bool) (d : Table) (before after : Lis
   pub explained : AreExplained join d [] after
   pub noted : found after f g ≡ Some w
   pub kept : (p q : ℕ) → has_pair before p q ≡ true → has_pair after p q ≡ true
+  pub same : (p q x : ℕ) → found before p q ≡ Some x → found after p q ≡ Some x
   pub absent : (p q : ℕ) → f + g < p + q → found before p q ≡ None → found after p q ≡ None
   pub last : found before f g ≡ None → (earlier : List Met) × (after ≡ earlier ++ record { u = f; v = g; w = w } ∷ [])

@@ -23,6 +23,10 @@ AllDiffer (f ∷ fs) = AllByRecursion (Differ f) fs × AllDiffer fs
 abbrev pub DependsOn : ((ℕ → Bool) → Bool) → ℕ → Type 0
 DependsOn f variable = (v : ℕ → Bool) × (f (λ x. if x == variable then true else v x) ≡ f (λ x. if x == variable then false else v x) → ⊥)
 
+-- At no values of the other variables does the value of this one decide the function's.
+abbrev pub Ignores : ((ℕ → Bool) → Bool) → ℕ → Type 0
+Ignores f variable = (v : ℕ → Bool) (b : Bool) → f (λ x. if x == variable then b else v x) ≡ f v
+
 -- There are 257 ways down to the variable that leave 257 different functions, each of which depends on
 -- the variable.
 pub record IsWideAt (order : List ℕ) (f : (ℕ → Bool) → Bool) (variable : ℕ) : Type 0 where

@@ -3,7 +3,7 @@ ghost use Rattle.std.specs.List.{IsDistinct, AllByRecursion, list_any};
 ghost use Rattle.kn_logic.specs.Constraints.{is_clause};
 ghost use Rattle.kn_logic.specs.Assignments.{value_of};
 ghost use Rattle.kn_diagram.specs.Widths.{IsWidest};
-ghost use Rattle.kn_diagram.specs.Wide.{IfWide, IsWideAt, IsTopmost, IsWide};
+ghost use Rattle.kn_diagram.specs.Wide.{IfWide, IsWideAt, IsTopmost, IsWide, DependsOn, Ignores};
 ghost use Rattle.kn_diagram.specs.Traces.{connective, AreExplained, Gains, IsRight, Explains};
 ghost use Rattle.kn_diagram.specs.Diagrams.{IsNode, function_of, depth_of, depth_in, is_true_by, asks, IsBranch, IsCanonical, HasNodes, IsTable, IsSplit, IsMade, Keeps};
 
@@ -119,6 +119,17 @@ impl Diagrams {
         self.traced(Joint::Or, f, g, trace)
     }
 
+    /// The disjunction of both functions, be it wide or not, by way of the results that were noted before.
+    pub fn or_by(&mut self, f: Node, g: Node, memo: &mut Memo) -> Result<Node, NoMemory>
+        requires f_there { IsNode self.old f }
+        requires g_there { IsNode self.old g }
+        requires explained { AreExplained (λ a b. a || b) self.old [] memo.old }
+        ensures kept { Keeps self.old self.new }
+        ensures joined { IfOk result (λ w. Gains (λ a b. a || b) self.new memo.old memo.new f g w) }
+    {
+        self.join(Joint::Or, f, g, memo)
+    }
+
     /// The variable of a node, and its nodes for where the variable is true and where it is false;
     /// `None` exactly for the two constants.
     pub fn parts(&self, f: Node) -> Option<(u64, Node, Node)>
@@ -155,6 +166,32 @@ impl Diagrams {
         width::widest(*self.order.allocator(), self, f)
     }
 
+    /// Whether the value of a variable decides the function's, at some values of the other variables.
+    pub fn depends(&self, f: Node, var: u64) -> Result<bool, NoMemory>
+        requires there { IsNode self.now f }
+        requires within { depth_in self.now.order var < length self.now.order }
+        ensures yes { IfOk result (λ b. b ≡ true → DependsOn (function_of self.now f) var) }
+        ensures not { IfOk result (λ b. b ≡ false → Ignores (function_of self.now f) var) }
+    {
+        let widths = width::widths(*self.order.allocator(), self, f)?;
+        let depth = depth_in(&self.order, var);
+        Ok(widths[depth] > 0)
+    }
+
+    /// How far down the order a variable stands, the top having 0; the length of the order where it is
+    /// not in it.
+    pub fn place(&self, var: u64) -> usize
+        ensures place { result ≡ depth_in self.now.order var }
+        ensures table { IsTable self.now }
+    {
+        depth_in(&self.order, var)
+    }
+
+    /// Where the nodes take their memory.
+    pub fn allocator(&self) -> Global {
+        *self.order.allocator()
+    }
+
     /// How many nodes there are up to this one.
     pub(crate) fn count_to(&self, node: Node) -> usize
         requires { IsNode self.now node }
@@ -184,11 +221,26 @@ impl Diagrams {
         self.rows.len() as u64 + 2
     }
 
+    /// An error exactly where the function of a node is wide: it names the topmost variable where it is.
+    pub fn refuse_wide(&self, w: Node) -> Result<(), DiagramError>
+        requires { IsNode self.now w }
+        ensures wide { IfErr result (λ e. IfWide e (λ level. IsWideAt self.now.order (function_of self.now w) level)) }
+        ensures topmost { IfErr result (λ e. IfWide e (λ level. IsTopmost self.now.order (function_of self.now w) level)) }
+        ensures narrow { OnOk result (IsWide self.now.order (function_of self.now w) → ⊥) }
+    {
+        if let Some(depth) = width::first_wide(*self.order.allocator(), self, w)? {
+            let level = self.order[depth];
+            return Err(DiagramError::Wide { level });
+        }
+        Ok(())
+    }
+
     /// How far down the order the variable of a node stands; a constant stands below all.
-    pub(crate) fn depth(&self, node: Node) -> usize
+    pub fn depth(&self, node: Node) -> usize
         requires { IsNode self.now node }
         ensures value { result ≡ depth_of self.now node }
         ensures branch { 2 ≤ node → result < length self.now.order }
+        ensures table { IsTable self.now }
     {
         let number = node.number();
         if number < 2 {
@@ -287,20 +339,6 @@ impl Diagrams {
         self.refuse_wide(w)?;
         memo.write(trace)?;
         Ok(w)
-    }
-
-    // An error exactly where the function of a node is wide: it names the topmost variable where it is.
-    fn refuse_wide(&self, w: Node) -> Result<(), DiagramError>
-        requires { IsNode self.now w }
-        ensures wide { IfErr result (λ e. IfWide e (λ level. IsWideAt self.now.order (function_of self.now w) level)) }
-        ensures topmost { IfErr result (λ e. IfWide e (λ level. IsTopmost self.now.order (function_of self.now w) level)) }
-        ensures narrow { OnOk result (IsWide self.now.order (function_of self.now w) → ⊥) }
-    {
-        if let Some(depth) = width::first_wide(*self.order.allocator(), self, w)? {
-            let level = self.order[depth];
-            return Err(DiagramError::Wide { level });
-        }
-        Ok(())
     }
 }
 

@@ -21,5 +21,6 @@ mod width;
 
 pub use diagrams::Diagrams;
 pub use error::DiagramError;
+pub use memo::Memo;
 pub use node::Node;
 pub use trace::{Met, Trace};

@@ -9,7 +9,7 @@ use std::marker::Model;
 
 /// The results for the pairs that an operation has met.
 #[derive(Drop)]
-pub(crate) struct Memo {
+pub struct Memo {
     results: IndexMap<(usize, usize), usize>,
 }
 
@@ -24,7 +24,8 @@ impl Model for Memo {
 }
 
 impl Memo {
-    pub(crate) fn new(alloc: Global) -> Memo
+    /// No results.
+    pub fn new(alloc: Global) -> Memo
         ensures { result ≡ [] }
     {
         Memo {
@@ -32,7 +33,8 @@ impl Memo {
         }
     }
 
-    pub(crate) fn get(&self, u: Node, v: Node) -> Option<Node>
+    /// The result that was noted for a pair.
+    pub fn get(&self, u: Node, v: Node) -> Option<Node>
         ensures { result ≡ found self.now u v }
     {
         let key = (u.number(), v.number());
@@ -43,7 +45,7 @@ impl Memo {
     }
 
     /// Notes the result for a pair that is not there.
-    pub(crate) fn insert(&mut self, u: Node, v: Node, w: Node) -> Result<(), NoMemory>
+    pub fn insert(&mut self, u: Node, v: Node, w: Node) -> Result<(), NoMemory>
         requires { found self.old u v ≡ None }
         ensures { OnOk result (self.new ≡ self.old ++ record { u = u; v = v; w = w } ∷ []) }
     {
@@ -52,7 +54,7 @@ impl Memo {
     }
 
     /// Puts the pairs behind the entries of a trace, in the order in which they came.
-    pub(crate) fn write(&self, trace: &mut Trace) -> Result<(), NoMemory>
+    pub fn write(&self, trace: &mut Trace) -> Result<(), NoMemory>
         ensures ok { OnOk result (trace.new ≡ trace.old ++ self.now) }
         ensures err { OnErr result (trace.new ≡ trace.old) }
     {

@@ -1,4 +1,4 @@
-ghost use Rattle.std.specs.Prelude.{◌≡◌, ◌++◌, [], OnOk, OnErr};
+ghost use Rattle.std.specs.Prelude.{◌≡◌, ◌++◌, [], take, OnOk, OnErr};
 
 use crate::Node;
 use kn_logic::NoMemory;
@@ -50,5 +50,12 @@ impl Trace {
         ensures err { OnErr result (self.new ≡ self.old) }
     {
         self.entries.append(entries)
+    }
+
+    /// Drops all entries but so many, which is at most how many there are.
+    pub fn truncate(&mut self, len: usize)
+        ensures { self.new ≡ take len self.old }
+    {
+        self.entries.truncate(len);
     }
 }

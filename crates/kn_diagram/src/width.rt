@@ -36,6 +36,16 @@ pub(crate) fn first_wide(alloc: Global, d: &Diagrams, f: Node) -> Result<Option<
     Ok(first_above(&widths, NARROW))
 }
 
+/// How many nodes of each variable are reached, the top one first.
+pub(crate) fn widths(alloc: Global, d: &Diagrams, f: Node) -> Result<Vec<u64>, NoMemory>
+    requires { IsNode d.now f }
+    ensures len { IfOk result (λ ws. length ws.items ≡ length d.now.order) }
+    ensures widths { IfOk result (λ ws. (k : ℕ) → k < length d.now.order → slice_index ws.items k ≡ width_at d.now f k) }
+{
+    let set = reached(alloc, d, f)?;
+    by_depth(alloc, d, set.numbers())
+}
+
 // The nodes that are reached: those below a node of the set join it, until each has had its turn.
 fn reached(alloc: Global, d: &Diagrams, f: Node) -> Result<NodeSet, NoMemory>
     requires { IsNode d.now f }

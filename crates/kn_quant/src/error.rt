@@ -1,0 +1,35 @@
+ghost use Rattle.kn_quant.specs.declared.error.QuantError.TheVariants.{Memory};
+
+use kn_logic::NoMemory;
+use std::alloc::AllocFailed;
+
+/// Why an elimination was not done.
+#[derive(Clone, Copy, Debug, PartialEq, Eq)]
+pub enum QuantError {
+    /// The function of a stage is wide at this variable, as none before it is. Stages count from 1; the
+    /// entries of clauses are not counted.
+    Wide { stage: u64, level: u64 },
+
+    /// Memory ran out.
+    Memory,
+}
+
+impl From<NoMemory> for QuantError {
+    ghost use Rattle.std.specs.Prelude.{◌≡◌};
+
+    ghost from_gives = { λ _ e. e ≡ Memory };
+
+    fn from(_e: NoMemory) -> QuantError {
+        QuantError::Memory
+    }
+}
+
+impl<T: Drop> From<AllocFailed<T>> for QuantError {
+    ghost use Rattle.std.specs.Prelude.{◌≡◌};
+
+    ghost from_gives = { λ _ e. e ≡ Memory };
+
+    fn from(_e: AllocFailed<T>) -> QuantError {
+        QuantError::Memory
+    }
+}
