@@ -1,4 +1,4 @@
-ghost use Rattle.std.specs.Prelude.{◌≡◌, ◌≤◌, ◌++◌, ◌∷◌, [], false, IfOk, IsErrOf};
+ghost use Rattle.std.specs.Prelude.{◌≡◌, ◌≤◌, ◌+◌, ◌++◌, ◌∷◌, [], false, length, IfOk, IsErrOf};
 ghost use Rattle.kn_logic.specs.Literals.{AreKnown};
 ghost use Rattle.kn_bytes.specs.Outside.{Rose};
 ghost use Rattle.kn_log.specs.Logs.{Logs, IsReadable};
@@ -24,6 +24,7 @@ pub fn learn<S: Sink>(
     requires vars { trail.now.vars ≡ log.old.state.vars }
     requires follows { Follows log.old.state.given [] trail.now.entries }
     requires conflict { IsConflict log.old.state.given (literals trail.now.entries) id }
+    ensures id { IfOk result (λ id. id ≡ length log.old.state.given + 1) }
     ensures logs { Logs (learned_line trail.now.entries id) log.old log.new (S.written sink.old) (S.written sink.new) result }
     ensures spelled { IsReadable result (learned_line trail.now.entries id) }
     ensures later { S.faults sink.old ≤ S.faults sink.new }
@@ -48,6 +49,7 @@ pub fn refute<S: Sink>(
     requires follows { Follows log.old.state.given [] trail.now.entries }
     requires conflict { IsConflict log.old.state.given (literals trail.now.entries) id }
     requires forced { has_decision trail.now.entries ≡ false }
+    ensures id { IfOk result (λ id. id ≡ length log.old.state.given + 1) }
     ensures logs { Logs (refuting_line trail.now.entries id) log.old log.new (S.written sink.old) (S.written sink.new) result }
     ensures spelled { IsReadable result (refuting_line trail.now.entries id) }
     ensures later { S.faults sink.old ≤ S.faults sink.new }
