@@ -11,3 +11,4 @@ pub mod WayLemmas
 pub mod WideLemmas
 pub mod DependLemmas
 pub mod TestLemmas
+pub mod GridLemmas

@@ -9,6 +9,8 @@
 
 mod diagrams;
 mod error;
+#[cfg(test)]
+mod grids;
 mod joint;
 mod memo;
 mod node;
