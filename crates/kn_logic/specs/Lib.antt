@@ -3,4 +3,5 @@ pub mod Assignments
 pub mod Constraints
 pub mod Formulas
 pub mod Propagation
+pub mod Newness
 pub mod Groups

@@ -73,3 +73,7 @@ after_hint trail c = after_parts trail c.guard c.bound c.lits
 abbrev pub hint_run : List Literal → List Bounded → Option (List Literal)
 hint_run trail [] = Some trail
 hint_run trail (c ∷ hints) = option_and_then (λ next. hint_run next hints) (after_hint trail c)
+
+-- The hint makes the literal true: it does not end in conflict, and the literal stands in the list behind it.
+abbrev pub Forces : List Literal → Bounded → Literal → Type 0
+Forces trail c l = (next : List Literal) × (after_hint trail c ≡ Some next) × (has next l ≡ true)

@@ -1,6 +1,7 @@
 -- The clauses of a definition hold where its variable has the value that the definition gives.
 use Rattle.std.proofs.Common.{◌≡◌, ℕ, ◌+◌, ◌≤◌, ◌⊎◌, ◌++◌, Bool, true, false, not, cond, List, [], ◌∷◌, map, IfSome, refl, sym, ap, subst, ◌∙◌, inl, inr, arith}
 use Rattle.std.specs.List.{AllByRecursion}
+use Rattle.kn_logic.proofs.Public.{true-negated, known-append}
 use Rattle.kn_logic.specs.Literals.{Literal, negated, places, AreKnown, IsKnown}
 use Rattle.kn_logic.specs.Assignments.{is_true, true_places}
 use Rattle.kn_logic.specs.Constraints.{Bounded, Holds, IsWithin}
@@ -8,10 +9,8 @@ use Rattle.kn_lines.specs.declared.line.Arm.{Arm}
 use Rattle.kn_lines.specs.declared.line.Arm.TheVariants as arm
 use Rattle.kn_rules.specs.declared.given.Given.{Given}
 use Rattle.kn_rules.specs.Steps.{with_arm, opposite, definition_clauses, by_definition}
-use Rattle.kn_rules.proofs.Truth.{true-negated}
 use Rattle.kn_rules.proofs.Nodes.{arm_value}
 use Rattle.kn_rules.specs.Sharing.{IsArmWithin}
-use Rattle.kn_rules.proofs.MarkLemmas.{known-append}
 
 places-push : (test : Literal → Bool) (lits : List Literal) (l : Literal) → places test (lits ++ l ∷ []) ≡ places test lits + cond (test l) 1 0
 places-push test [] l = omega arith

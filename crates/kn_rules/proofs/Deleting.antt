@@ -5,12 +5,12 @@ use Rattle.std.specs.Option.{is_none, option_and_then}
 use Rattle.std.proofs.lemmas.Bool.{cond_both, cond-false}
 use Rattle.std.proofs.lemmas.List.{take_at, at_drop_more}
 use Rattle.std.proofs.lemmas.Option.{same_Some}
+use Rattle.kn_logic.proofs.Public.{All-set}
 use Rattle.kn_logic.specs.Constraints.{Bounded}
 use Rattle.kn_rules.specs.declared.given.Given.{Given}
 use Rattle.kn_rules.specs.States.{given_at, live_at}
 use Rattle.kn_rules.specs.Steps.{without, deleted}
 use Rattle.kn_rules.specs.Restoring.{with_live, put, restored}
-use Rattle.kn_rules.proofs.Elements.{All-set}
 
 -- what holds of each live constraint
 abbrev pub AllLive : (Bounded → Type 0) → List Given → Type 0

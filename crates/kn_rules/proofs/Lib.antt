@@ -1,4 +1,3 @@
-pub mod Elements
 pub mod Truth
 pub mod Deleting
 pub mod MarkLemmas

@@ -7,6 +7,7 @@ use Rattle.std.proofs.Math.Seq.{get_or-append_seam}
 use Rattle.std.proofs.lemmas.List.{get_or_append_left, take_more, get_or-replicate, length-replicate, length-set, get_or-set_same, get_or-set_other}
 use Rattle.kn_logic.specs.Literals.{Literal, negated, is_same, has, names, IsKnown, AreKnown}
 use Rattle.kn_logic.specs.Propagation.{is_open}
+use Rattle.kn_logic.proofs.Public.{known-append, known-filter, known-front, known-last, known_at, has-push, unnamed}
 use Rattle.kn_rules.specs.Marks.{unmarked, mark_of, IsMarked, entry_of, is_marked, with_literal, marked, is_unopposed}
 use Rattle.kn_rules.specs.declared.trail.Mark.{Mark}
 
@@ -14,19 +15,6 @@ use Rattle.kn_rules.specs.declared.trail.Mark.{Mark}
 pub record IsUnmarked (marks : List Mark) (lits : List Literal) : Type 0 where
   pub known : AreKnown (length marks) lits
   pub exact : (k : ℕ) → k < length marks → names lits (k + 1) ≡ false → get_or marks k unmarked ≡ unmarked
-
--- known literals
-pub known-append : (vars : ℕ) (a b : List Literal) → AreKnown vars a → AreKnown vars b → AreKnown vars (a ++ b)
-known-append vars [] b h k = k
-known-append vars (l ∷ a) b h k = (h.0, known-append vars a b h.1 k)
-
-keep_known : (vars : ℕ) (l : Literal) (lits : List Literal) (t : Bool) → IsKnown vars l → AreKnown vars lits → AreKnown vars (cond t (l ∷ lits) lits)
-keep_known vars l lits true h k = (h, k)
-keep_known vars l lits false h k = k
-
-pub known-filter : (vars : ℕ) (p : Literal → Bool) (lits : List Literal) → AreKnown vars lits → AreKnown vars (filter p lits)
-known-filter vars p [] h = tt
-known-filter vars p (l ∷ lits) h = keep_known vars l (filter p lits) (p l) h.0 (known-filter vars p lits h.1)
 
 -- what the table says
 flag : (lits : List Literal) (variable : ℕ) (positive : Bool) → cond positive (mark_of lits variable).positive (mark_of lits variable).negative ≡ has lits (record { variable = variable; positive = positive })
@@ -57,14 +45,6 @@ pub replicate-marked : (vars : ℕ) → IsMarked (replicate vars unmarked) []
 replicate-marked vars = record { known = tt; exact = λ k h. get_or-replicate vars k unmarked unmarked (simp length-replicate at h) }
 
 -- one literal more
-has-push : (lits : List Literal) (l x : Literal) → has (lits ++ l ∷ []) x ≡ (has lits x || is_same x l)
-has-push [] l x = elim (is_same x l) as (λ b. (b || false) ≡ b) [ true ↦ refl | false ↦ refl ]
-has-push (y ∷ lits) l x = or_under (is_same x y) _ _ _ (has-push lits l x)
-  where
-    or_under : (a b c d : Bool) → b ≡ (c || d) → (a || b) ≡ (a || c || d)
-    or_under true b c d e = refl
-    or_under false b c d e = e
-
 same_mark : (a b p n : Bool) → a ≡ p → b ≡ n → ◌≡◌ {A = Mark} (record { positive = a; negative = b }) (record { positive = p; negative = n })
 same_mark a b p n e f = cc
 
@@ -109,9 +89,6 @@ push-marked marks lits l m k =
       exact = λ j h. at_place marks lits l m k j (rw len at h);
     }
 
-pub known_at : (vars : ℕ) (lits : List Literal) (k : ℕ) (d : Literal) → AreKnown vars lits → k < length lits → IsKnown vars (get_or lits k d)
-known_at vars lits k d h i = All-from_recursion (IsKnown vars) lits h k d i
-
 -- the table after one turn of the loop that marks all
 pub marks-more : (marks new : List Mark) (before lits : List Literal) (k vars : ℕ) (l : Literal) → IsMarked marks (before ++ take k lits) → new ≡ marked marks l → k < length lits → l ≡ get_or lits k l → AreKnown vars lits → length marks ≡ vars → IsMarked new (before ++ take (k + 1) lits)
 marks-more marks new before lits k vars l m e h is known len =
@@ -122,13 +99,6 @@ marks-more marks new before lits k vars l m e h is known len =
     subst (λ x. IsMarked x (before ++ take (k + 1) lits)) (sym e) (subst (IsMarked (marked marks l)) list next)
 
 -- the table of a list without its literals
-unnamed : (lits : List Literal) (x : Literal) → names lits x.variable ≡ false → has lits x ≡ false
-unnamed [] x h = refl
-unnamed (l ∷ lits) x h =
-    let parts = or_parts (eqb l.variable x.variable) (names lits x.variable) h in
-    let differs : eqb x.variable l.variable ≡ false = ne_eqb _ _ (λ e. eqb-false _ _ parts.0 (sym e)) in
-    rw differs (unnamed lits x parts.1)
-
 pub marked-unmarked : (marks : List Mark) (lits : List Literal) → IsMarked marks lits → IsUnmarked marks lits
 marked-unmarked marks lits m = record {
   known = m.known;
@@ -140,14 +110,6 @@ marked-unmarked marks lits m = record {
 }
 
 -- one literal less
-pub known-front : (vars : ℕ) (front back : List Literal) → AreKnown vars (front ++ back) → AreKnown vars front
-known-front vars [] back h = tt
-known-front vars (l ∷ front) back h = (h.0, known-front vars front back h.1)
-
-known-last : (vars : ℕ) (front : List Literal) (l : Literal) → AreKnown vars (front ++ l ∷ []) → IsKnown vars l
-known-last vars [] l h = h.0
-known-last vars (x ∷ front) l h = known-last vars front l h.1
-
 none_named : (front : List Literal) (variable k : ℕ) → names front variable ≡ false → k ≡ variable → unmarked ≡ mark_of front k
 none_named front variable k alone e =
     let n : names front k ≡ false = ap (names front) e ∙ alone in

@@ -3,6 +3,7 @@
 use Rattle.std.proofs.Common.{◌≡◌, ℕ, ◌+◌, ◌-◌, ◌≤◌, ◌<◌, Bool, true, false, not, cond, eqb, ltb, leb, List, [], ◌∷◌, length, Option, None, Some, IfSome, refl, sym, ap, ◌∙◌, inl, inr, arith}
 use Rattle.std.specs.Option.{option_map_or}
 use Rattle.std.proofs.lemmas.Bool.{cond_both, and_parts, or_cases, eqb-true, eqb-false, ltb-true}
+use Rattle.kn_logic.proofs.Public.{true-negated, true-same}
 use Rattle.kn_logic.specs.Literals.{Literal, negated, is_same}
 use Rattle.kn_logic.specs.Assignments.{value_of, is_true, true_places}
 use Rattle.kn_lines.specs.declared.line.Arm.{Arm}
@@ -10,7 +11,6 @@ use Rattle.kn_lines.specs.declared.line.Arm.TheVariants as arm
 use Rattle.kn_counter.specs.declared.grid.Cell.TheVariants as cell
 use Rattle.kn_rules.specs.declared.definition.Definition.{Definition}
 use Rattle.kn_rules.specs.Grids.{is_true_arm, is_false_arm, variable_of, splits, stands_as, led_to, stands_for}
-use Rattle.kn_rules.proofs.Truth.{true-negated, true-same}
 
 -- the value of an arm
 abbrev pub arm_value : List Bool → Arm → Bool

@@ -2,6 +2,7 @@
 use Rattle.std.proofs.Common.{◌≡◌, ℕ, ◌+◌, ◌-◌, ◌≤◌, ◌++◌, ◌&&◌, Bool, true, false, cond, leb, List, [], ◌∷◌, length, length-append, map, Some, Result, Err, IsOk, IfOk, refl, sym, ap, ◌∙◌, subst, arith}
 use Rattle.std.specs.List.{AllByRecursion}
 use Rattle.std.proofs.lemmas.Bool.{and_parts, leb-true}
+use Rattle.kn_logic.proofs.Public.{All-push, All-append}
 use Rattle.kn_logic.specs.Literals.{Literal, AreKnown}
 use Rattle.kn_logic.specs.Constraints.{Bounded, clause, klause, Fits, IsWithin}
 use Rattle.kn_lines.specs.declared.line.Arm.{Arm}
@@ -12,7 +13,6 @@ use Rattle.kn_rules.specs.Sharing.{IsDefinedWithin}
 use Rattle.kn_rules.specs.Grids.{is_root}
 use Rattle.kn_rules.specs.Marks.{Assumed}
 use Rattle.kn_rules.specs.Steps.{are_known, follow, is_known_variable, is_known_arm, by_definition, definition_clauses, define, count}
-use Rattle.kn_rules.proofs.Elements.{All-push, All-append}
 use Rattle.kn_rules.proofs.Extending.{live-more, defined-more}
 use Rattle.kn_rules.proofs.Defining.{by_definition-all, definition-within}
 use Rattle.kn_rules.proofs.Units.{defined-known}

@@ -6,6 +6,7 @@ use Rattle.std.proofs.lemmas.Bool.{cond_both, cases_lt, ltb-true, ltb-false}
 use Rattle.std.proofs.lemmas.Option.{slice_get_within, same_Some}
 use Rattle.std.proofs.lemmas.List.{get_or_append_left}
 use Rattle.std.proofs.Math.Seq.{get_or-append_seam}
+use Rattle.kn_logic.proofs.Public.{All-at, All-push}
 use Rattle.kn_logic.specs.Literals.{Literal, negated, is_same}
 use Rattle.kn_lines.specs.declared.line.Arm.{Arm}
 use Rattle.kn_lines.specs.declared.line.Arm.TheVariants as arm
@@ -17,7 +18,6 @@ use Rattle.kn_rules.specs.States.{defined_among}
 use Rattle.kn_rules.specs.Grids.{variable_of, splits, stands_as, led_to, stands_for}
 use Rattle.kn_rules.specs.Demands.{arm_of}
 use Rattle.kn_rules.specs.Sharing.{Key, IsArmWithin, IsDefinedWithin, first_of, arm_key, key_of, IsShared, IsFirst}
-use Rattle.kn_rules.proofs.Elements.{All-at, All-push}
 use Rattle.kn_rules.proofs.Extending.{defined-more}
 use Rattle.kn_rules.proofs.DemandLemmas.{stands-negated, none-node}
 

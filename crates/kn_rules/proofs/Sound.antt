@@ -6,6 +6,7 @@ use Rattle.std.specs.Option.{is_none, option_and_then, option_map}
 use Rattle.std.proofs.lemmas.Bool.{cond_both, or_from, and_parts, ltb-true, leb-true}
 use Rattle.std.proofs.lemmas.Result.{IfOk-weaker}
 use Rattle.std.proofs.lemmas.List.{append-nil}
+use Rattle.kn_logic.proofs.Public.{All-at, All-push, All-append, at-push, true-negated}
 use Rattle.kn_logic.specs.Literals.{Literal, negated, AreKnown}
 use Rattle.kn_logic.specs.Assignments.{value_of, is_true, true_places}
 use Rattle.kn_logic.specs.Constraints.{Bounded, clause, klause, Holds, IsWithin}
@@ -24,14 +25,13 @@ use Rattle.kn_rules.specs.Steps.{are_known, hinted, is_conflict, is_empty, with_
 use Rattle.kn_rules.specs.Grids.{is_root}
 use Rattle.kn_rules.specs.Proofs.{Runs, StepsThrough, IsProof}
 use Rattle.kn_rules.proofs.Deleting.{deleted-keep}
-use Rattle.kn_rules.proofs.Elements.{All-at, All-push, All-append, at-push}
 use Rattle.kn_rules.proofs.Ready.{known-test, file-within}
 use Rattle.kn_rules.proofs.Nodes.{defined_value, KeepsTo, stands-count}
 use Rattle.kn_rules.specs.Sharing.{IsDefinedWithin}
 use Rattle.kn_rules.proofs.Extending.{live-more, defined-more, value-more, holds-more, defined_value-more}
 use Rattle.kn_rules.proofs.Defining.{by_definition-all, definition-holds, definition-within}
 use Rattle.kn_rules.proofs.Units.{false-not, true-leb, known-variable, defined-known, last-value, unit-true, unit-holds, enough}
-use Rattle.kn_rules.proofs.Truth.{AreTrue, GoesOn, true-negated, run-goes_on}
+use Rattle.kn_rules.proofs.Truth.{AreTrue, GoesOn, run-goes_on}
 
 -- what an id stands for holds, unless it is deleted
 abbrev pub LiveHolds : List Bool → Given → Type 0

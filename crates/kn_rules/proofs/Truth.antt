@@ -4,6 +4,7 @@ use Rattle.std.proofs.Common.{◌≡◌, ℕ, ◌+◌, ◌≤◌, ◌⊎◌, ◌
 use Rattle.std.specs.List.{AllByRecursion, filter}
 use Rattle.std.specs.Option.{option_and_then}
 use Rattle.std.proofs.lemmas.Bool.{and_parts, or_cases, cases_Bool, cond_both, eqb-true, ltb-true, not_from_false}
+use Rattle.kn_logic.proofs.Public.{true-negated, true-same, places-le, all-kept}
 use Rattle.kn_logic.specs.Literals.{Literal, negated, is_same, has, places}
 use Rattle.kn_logic.specs.Assignments.{is_true, true_places}
 use Rattle.kn_logic.specs.Constraints.{Bounded, IsOff, Holds}
@@ -22,26 +23,6 @@ AreTrue-append : (values : List Bool) (a b : List Literal) → AreTrue values a 
 AreTrue-append values [] b s t = t
 AreTrue-append values (l ∷ a) b s t = (s.0, AreTrue-append values a b s.1 t)
 
-flipped : (p v : Bool) → cond (not p) v (not v) ≡ not (cond p v (not v))
-flipped true v = refl
-flipped false true = refl
-flipped false false = refl
-
-pub true-negated : (values : List Bool) (l : Literal) → is_true values (negated l) ≡ not (is_true values l)
-true-negated values l = flipped l.positive _
-
-alike : (p q : Bool) → cond p q (not q) ≡ true → p ≡ q
-alike true q e = sym e
-alike false true e = e
-alike false false e = refl
-
-pub true-same : (values : List Bool) (a b : Literal) → is_same a b ≡ true → is_true values a ≡ is_true values b
-true-same values a b e =
-    let parts = and_parts (eqb a.variable b.variable) (cond a.positive b.positive (not b.positive)) e in
-    let variable : a.variable ≡ b.variable = eqb-true _ _ parts.0 in
-    let positive : a.positive ≡ b.positive = alike _ _ parts.1 in
-    cc
-
 true_where_it_stands : (values : List Bool) (trail : List Literal) (l : Literal) → AreTrue values trail → has trail l ≡ true → is_true values l ≡ true
 true_where_it_stands values [] l h e = absurd cc
 true_where_it_stands values (x ∷ xs) l h e =
@@ -54,27 +35,6 @@ true_is_open values trail h l e =
       | inl s ↦ (let t = true_where_it_stands values trail (negated l) h s in let n = true-negated values l in absurd cc)
       | inr s ↦ not_from_false _ s
     ]
-
-step-le : (s t : Bool) → (s ≡ true → t ≡ true) → cond s 1 0 ≤ cond t 1 0
-step-le true true h = omega arith
-step-le true false h = let e = h refl in absurd cc
-step-le false t h = omega arith
-
-pub places-le : (p q : Literal → Bool) → ((l : Literal) → p l ≡ true → q l ≡ true) → (lits : List Literal) → places p lits ≤ places q lits
-places-le p q h [] = omega arith
-places-le p q h (l ∷ lits) = omega (arith, step-le (p l) (q l) (h l), places-le p q h lits)
-
-kept_at : (p : Literal → Bool) (l : Literal) (rest : List Literal) (s t : Bool) (m n : ℕ) → p l ≡ s → (s ≡ true → t ≡ true) → m ≤ n → cond t 1 0 + n ≤ cond s 1 0 + m → (n ≤ m → AllByRecursion (λ x. p x ≡ true) rest) → AllByRecursion (λ x. p x ≡ true) (cond t (l ∷ rest) rest)
-kept_at p l rest true true m n e h le k ih = (e, ih (omega arith))
-kept_at p l rest true false m n e h le k ih = let x = h refl in absurd cc
-kept_at p l rest false true m n e h le k ih = absurd (omega arith)
-kept_at p l rest false false m n e h le k ih = ih (omega arith)
-
--- where a weaker test passes at no more places, all that pass it pass both
-pub all-kept : (p q : Literal → Bool) → ((l : Literal) → p l ≡ true → q l ≡ true) → (lits : List Literal) → places q lits ≤ places p lits → AllByRecursion (λ x. p x ≡ true) (filter q lits)
-all-kept p q h [] k = tt
-all-kept p q h (l ∷ lits) k =
-    kept_at p l (filter q lits) (p l) (q l) (places p lits) (places q lits) refl (h l) (places-le p q h lits) k (λ le. all-kept p q h lits le)
 
 bound-goes_on : (values : List Bool) (trail : List Literal) (bound : ℕ) (lits : List Literal) → AreTrue values trail → bound ≤ true_places values lits → GoesOn values (after_bound trail bound lits)
 bound-goes_on values trail bound lits h holds =

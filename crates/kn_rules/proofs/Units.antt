@@ -3,13 +3,13 @@ use Rattle.std.proofs.Common.{◌≡◌, ℕ, ◌+◌, ◌-◌, ◌≤◌, ◌�
 use Rattle.std.specs.Option.{is_none}
 use Rattle.std.proofs.lemmas.Bool.{and_parts, leb-true, eqb-true}
 use Rattle.std.proofs.Math.Seq.{get_or-append_seam}
+use Rattle.kn_logic.proofs.Public.{true-same}
 use Rattle.kn_logic.specs.Literals.{Literal}
 use Rattle.kn_logic.specs.Assignments.{value_of, is_true, true_places}
 use Rattle.kn_logic.specs.Constraints.{Bounded, IsOff, Holds}
 use Rattle.kn_lines.specs.declared.line.Arm.{Arm}
 use Rattle.kn_lines.specs.declared.line.Arm.TheVariants as arm
 use Rattle.kn_rules.specs.Steps.{is_known_variable, is_known_arm, is_unit_list, is_unit, unit_of}
-use Rattle.kn_rules.proofs.Truth.{true-same}
 use Rattle.kn_rules.specs.Sharing.{IsArmWithin, IsDefinedWithin}
 
 pub false-not : (b : Bool) → not b ≡ false → b ≡ true

@@ -5,10 +5,10 @@ use Rattle.std.specs.Option.{is_none, is_some}
 use Rattle.std.proofs.lemmas.Bool.{or_parts, or_right, eq-eqb, ne_eqb, cases_eq, cond_both}
 use Rattle.std.proofs.lemmas.List.{map-append}
 use Rattle.std.proofs.lemmas.List.Folds.{list_any-append}
+use Rattle.kn_logic.proofs.Public.{known-append, known-front}
 use Rattle.kn_logic.specs.Literals.{Literal, negated, is_same, has, names, IsKnown, AreKnown, AreDifferent}
 use Rattle.kn_rules.specs.declared.given.Given.{Given}
 use Rattle.kn_rules.specs.Marks.{Assumed, IsLastAlone}
-use Rattle.kn_rules.proofs.MarkLemmas.{known-append, known-front}
 use Rattle.kn_search.specs.declared.trail.Entry.{Entry}
 use Rattle.kn_search.specs.Trails.{Trailed, literals, decisions, IsTrail, has_decision, before_decision, Follows}
 

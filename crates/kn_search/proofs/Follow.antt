@@ -7,18 +7,17 @@ use Rattle.std.specs.Option.{is_none, option_and_then, option_map}
 use Rattle.std.proofs.lemmas.Bool.{and_from, le-leb, cond-true}
 use Rattle.std.proofs.lemmas.List.{append-nil}
 use Rattle.std.proofs.lemmas.Option.{same_Some}
+use Rattle.kn_logic.proofs.Public.{All-push, not_twice, has-left, has-right, has-one, Covers, Grows, Covers-append, hint-keeps, hint-grows, hint-conflict-grows}
 use Rattle.kn_logic.specs.Literals.{Literal, negated, has, IsKnown, AreKnown}
 use Rattle.kn_logic.specs.Constraints.{Bounded}
-use Rattle.kn_logic.specs.Propagation.{after_hint, hint_run}
+use Rattle.kn_logic.specs.Propagation.{after_hint, hint_run, Forces}
 use Rattle.kn_lines.specs.Lines.{AreIds}
 use Rattle.kn_rules.specs.declared.given.Given.{Given}
 use Rattle.kn_rules.specs.declared.given.Origin.{Origin}
 use Rattle.kn_rules.specs.States.{ProofState, given_at, live_at}
 use Rattle.kn_rules.specs.Steps.{are_known, hinted, is_conflict, with_clause, if_conflict, follow}
-use Rattle.kn_rules.proofs.Elements.{All-push}
-use Rattle.kn_search.proofs.Hints.{not_twice, has-left, has-right, has-one, Covers, Grows, Covers-append, hint-keeps, hint-grows, hint-conflict-grows}
 use Rattle.kn_search.specs.declared.trail.Entry.{Entry}
-use Rattle.kn_search.specs.Trails.{literals, decisions, reason_behind, reasons, Forces, IsForced, Follows, IsConflict, refuted_decisions}
+use Rattle.kn_search.specs.Trails.{literals, decisions, reason_behind, reasons, IsForced, Follows, IsConflict, refuted_decisions}
 
 -- more is given
 get-grows : (given more : List Given) (k : ℕ) (entry : Given) → slice_get given k ≡ Some entry → slice_get (given ++ more) k ≡ Some entry

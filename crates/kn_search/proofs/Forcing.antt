@@ -2,6 +2,7 @@
 use Rattle.std.proofs.Common.{◌≡◌, ℕ, ◌<◌, ◌++◌, Bool, true, false, cond, List, [], ◌∷◌, Option, None, Some, refl, sym, subst, length-append, inl, inr, arith}
 use Rattle.std.proofs.lemmas.Bool.{or_right, cases_Bool, not_from_false}
 use Rattle.std.proofs.lemmas.Option.{same_Some}
+use Rattle.kn_logic.proofs.Public.{has-first, All-has, forces-bound, forces-guard}
 use Rattle.kn_logic.specs.Literals.{Literal, negated, is_same, has, names, IsKnown, AreKnown}
 use Rattle.kn_logic.specs.Constraints.{Bounded, klause, guarded_klause}
 use Rattle.kn_logic.specs.Propagation.{is_open, open_places, after_bound, after_guard, after_hint}
@@ -11,7 +12,6 @@ use Rattle.kn_search.specs.declared.trail.Entry.{Entry}
 use Rattle.kn_search.specs.declared.propagation.Seen.TheVariants as seen
 use Rattle.kn_search.specs.Trails.{Trailed, literals, first_unset, Follows}
 use Rattle.kn_search.specs.Searches.{Sees, Extends}
-use Rattle.kn_search.proofs.Hints.{has-first, All-has, forces-bound, forces-guard}
 use Rattle.kn_search.proofs.Follow.{Follows-push}
 use Rattle.kn_search.proofs.Totals.{has-names}
 

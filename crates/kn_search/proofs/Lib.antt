@@ -1,4 +1,3 @@
-pub mod Hints
 pub mod Follow
 pub mod Logging
 pub mod Totals

@@ -4,13 +4,13 @@ use Rattle.std.specs.List.{filter, slice_get}
 use Rattle.std.specs.Option.{option_and_then}
 use Rattle.std.proofs.lemmas.Option.{slice_get_past}
 use Rattle.std.proofs.lemmas.Bool.{or_cases, cases_Bool, cond-true, cond-false, eq-eqb, ne_eqb, ltb-true}
+use Rattle.kn_logic.proofs.Public.{same_literal, has-either, has-filtered}
 use Rattle.kn_logic.specs.Literals.{Literal, negated, is_same, has, names}
 use Rattle.kn_logic.specs.Propagation.{is_open, open_places, after_bound, after_guard}
 use Rattle.kn_rules.specs.declared.given.Given.{Given}
 use Rattle.kn_rules.specs.States.{live_at}
 use Rattle.kn_search.specs.Trails.{first_unset}
 use Rattle.kn_search.specs.Searches.{AddsNothing, IsQuiet}
-use Rattle.kn_search.proofs.Hints.{same_literal, has-either, has-filtered}
 use Rattle.kn_search.proofs.Entries.{set-names}
 
 keeps : (trail : List Literal) (after : Option (List Literal)) → after ≡ Some trail → AddsNothing trail after

@@ -2,11 +2,11 @@
 -- conflict.
 use Rattle.std.proofs.Common.{◌≡◌, ℕ, ◌≤◌, ◌<◌, ◌⊎◌, Bool, true, false, not, cond, eqb, leb, List, [], ◌∷◌, Option, None, Some, IfSome, refl, sym, ap, ◌∙◌, subst, inl, inr}
 use Rattle.std.proofs.lemmas.Bool.{and_parts, and_from, or_cases, or_left, or_right, cases_Bool, eqb-true, eq-eqb, leb-true, leb-false, true_from_ne_false}
+use Rattle.kn_logic.proofs.Public.{same_literal, same_sign, not_twice, IsOn, short-conflict}
 use Rattle.kn_logic.specs.Literals.{Literal, negated, is_same, has, names, IsKnown, AreKnown, AreDifferent}
 use Rattle.kn_logic.specs.Assignments.{value_of, is_true, true_places}
 use Rattle.kn_logic.specs.Constraints.{Bounded, IsOff, Holds, IsWithin}
 use Rattle.kn_logic.specs.Propagation.{is_open, open_places, after_hint}
-use Rattle.kn_search.proofs.Hints.{same_literal, same_sign, not_twice, IsOn, short-conflict}
 
 -- the literals of a variable
 abbrev pub positive_of : ℕ → Literal

@@ -5,7 +5,7 @@ use Rattle.std.specs.List.{list_any}
 use Rattle.std.specs.Option.{is_none}
 use Rattle.kn_logic.specs.Literals.{Literal, negated, has, names, AreKnown, AreDifferent}
 use Rattle.kn_logic.specs.Constraints.{Bounded}
-use Rattle.kn_logic.specs.Propagation.{after_hint}
+use Rattle.kn_logic.specs.Propagation.{after_hint, Forces}
 use Rattle.kn_rules.specs.declared.given.Given.{Given}
 use Rattle.kn_rules.specs.States.{live_at}
 use Rattle.kn_rules.specs.Marks.{Assumed}
@@ -56,10 +56,6 @@ reason_behind (Some id) ids = id ∷ ids
 abbrev pub reasons : List Entry → List ℕ
 reasons [] = []
 reasons (e ∷ es) = reason_behind e.reason (reasons es)
-
--- As a hint, the constraint makes the literal join the list.
-abbrev pub Forces : List Literal → Bounded → Literal → Type 0
-Forces trail c l = (next : List Literal) × (after_hint trail c ≡ Some next) × (has next l ≡ true)
 
 -- the literal was decided, or its reason forces it behind these literals
 abbrev pub IsForced : List Given → List Literal → Literal → Option ℕ → Type 0

@@ -1,8 +1,9 @@
 use Rattle.std.proofs.Common.{◌≡◌, sym, ap, ◌∙◌, subst, length, filter, arith}
 use Rattle.std.proofs.lemmas.Grind.{common_steps}
+use Rattle.kn_logic.proofs.Public.{known-filter}
 use Rattle.kn_logic.specs.Literals.{AreKnown}
 use Rattle.kn_rules.specs.Marks.{Assumed, is_unopposed}
-use Rattle.kn_rules.proofs.MarkLemmas.{known-filter, unopposed-filter}
+use Rattle.kn_rules.proofs.MarkLemmas.{unopposed-filter}
 use Rattle.kn_rules.proofs.trail.Trail.push_open.Goals as goal
 
 pub mark_all-requires : goal.mark_all-requires

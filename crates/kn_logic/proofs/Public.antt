@@ -1,14 +1,64 @@
--- What a hint makes of a longer list: it ends in conflict wherever it did, and what joined the shorter list
--- is in the longer one. And what a hint forces, seen from its open places.
-use Rattle.std.proofs.Common.{◌≡◌, ℕ, ◌≤◌, ◌<◌, ◌⊎◌, ◌++◌, Bool, true, false, not, cond, eqb, ltb, List, [], ◌∷◌, Option, None, Some, refl, sym, ◌∙◌, subst, inl, inr, arith}
-use Rattle.std.specs.List.{AllByRecursion, filter}
-use Rattle.std.proofs.lemmas.Bool.{and_parts, and_from, or_cases, or_left, or_right, cases_Bool, cond_both, cond-true, cond-false, eqb-true, eq-eqb, ltb-true, ltb-false, not_from_false}
+-- For the crates above: literals in lists, how many places pass a test, and what a hint makes of a longer
+-- list. It ends in conflict wherever it did, and what joined the shorter list is in the longer one.
+use Rattle.std.proofs.Common.{◌≡◌, ℕ, zero, suc, ◌+◌, ◌≤◌, ◌<◌, ◌⊎◌, ◌++◌, Bool, true, false, not, ◌||◌, cond, eqb, ltb, List, [], ◌∷◌, length, set, get_or, IfSome, Option, None, Some, refl, sym, ◌∙◌, subst, inl, inr, arith}
+use Rattle.std.specs.List.{AllByRecursion, filter, slice_get}
+use Rattle.std.proofs.lemmas.Bool.{and_parts, and_from, or_cases, or_parts, or_left, or_right, cases_Bool, cond_both, cond-true, cond-false, eqb-true, eqb-false, eq-eqb, ne_eqb, ltb-true, ltb-false, not_from_false}
+use Rattle.std.proofs.lemmas.List.Elements.{All-from_recursion}
 use Rattle.std.proofs.lemmas.List.Folds.{list_any-append}
-use Rattle.kn_logic.specs.Literals.{Literal, negated, is_same, has}
+use Rattle.kn_logic.specs.Literals.{Literal, negated, is_same, has, names, places, IsKnown, AreKnown}
+use Rattle.kn_logic.specs.Assignments.{is_true}
 use Rattle.kn_logic.specs.Constraints.{Bounded}
-use Rattle.kn_logic.specs.Propagation.{is_open, open_places, after_bound, after_guard, after_parts, after_hint}
-use Rattle.kn_rules.proofs.Truth.{places-le, all-kept}
-use Rattle.kn_search.specs.Trails.{Forces}
+use Rattle.kn_logic.specs.Propagation.{is_open, open_places, after_bound, after_guard, after_parts, after_hint, Forces}
+
+-- what holds of each element
+pub All-at : {X : Type 0} (P : X → Type 0) (xs : List X) (k : ℕ) → AllByRecursion P xs → IfSome (slice_get xs k) P
+All-at P [] k h = tt
+All-at P (x ∷ xs) zero h = h.0
+All-at P (x ∷ xs) (suc k) h = All-at P xs k h.1
+
+pub All-set : {X : Type 0} (P : X → Type 0) (xs : List X) (k : ℕ) (y : X) → AllByRecursion P xs → P y → AllByRecursion P (set xs k y)
+All-set P [] k y h p = tt
+All-set P (x ∷ xs) zero y h p = (p, h.1)
+All-set P (x ∷ xs) (suc k) y h p = (h.0, All-set P xs k y h.1 p)
+
+pub All-push : {X : Type 0} (P : X → Type 0) (xs : List X) (y : X) → AllByRecursion P xs → P y → AllByRecursion P (xs ++ y ∷ [])
+All-push P [] y h p = (p, tt)
+All-push P (x ∷ xs) y h p = (h.0, All-push P xs y h.1 p)
+
+pub All-append : {X : Type 0} (P : X → Type 0) (xs ys : List X) → AllByRecursion P xs → AllByRecursion P ys → AllByRecursion P (xs ++ ys)
+All-append P [] ys h k = k
+All-append P (x ∷ xs) ys h k = (h.0, All-append P xs ys h.1 k)
+
+-- what holds of each element and its place
+pub at-push : {X : Type 0} (P : ℕ → X → Type 0) (xs : List X) (y : X) → ((k : ℕ) → IfSome (slice_get xs k) (P k)) → P (length xs) y → (k : ℕ) → IfSome (slice_get (xs ++ y ∷ []) k) (P k)
+at-push P [] y h p zero = p
+at-push P [] y h p (suc k) = tt
+at-push P (x ∷ xs) y h p zero = h zero
+at-push P (x ∷ xs) y h p (suc k) = at-push (λ n. P (suc n)) xs y (λ n. h (suc n)) p k
+
+-- known literals
+pub known-append : (vars : ℕ) (a b : List Literal) → AreKnown vars a → AreKnown vars b → AreKnown vars (a ++ b)
+known-append vars [] b h k = k
+known-append vars (l ∷ a) b h k = (h.0, known-append vars a b h.1 k)
+
+keep_known : (vars : ℕ) (l : Literal) (lits : List Literal) (t : Bool) → IsKnown vars l → AreKnown vars lits → AreKnown vars (cond t (l ∷ lits) lits)
+keep_known vars l lits true h k = (h, k)
+keep_known vars l lits false h k = k
+
+pub known-filter : (vars : ℕ) (p : Literal → Bool) (lits : List Literal) → AreKnown vars lits → AreKnown vars (filter p lits)
+known-filter vars p [] h = tt
+known-filter vars p (l ∷ lits) h = keep_known vars l (filter p lits) (p l) h.0 (known-filter vars p lits h.1)
+
+pub known-front : (vars : ℕ) (front back : List Literal) → AreKnown vars (front ++ back) → AreKnown vars front
+known-front vars [] back h = tt
+known-front vars (l ∷ front) back h = (h.0, known-front vars front back h.1)
+
+pub known-last : (vars : ℕ) (front : List Literal) (l : Literal) → AreKnown vars (front ++ l ∷ []) → IsKnown vars l
+known-last vars [] l h = h.0
+known-last vars (x ∷ front) l h = known-last vars front l h.1
+
+pub known_at : (vars : ℕ) (lits : List Literal) (k : ℕ) (d : Literal) → AreKnown vars lits → k < length lits → IsKnown vars (get_or lits k d)
+known_at vars lits k d h i = All-from_recursion (IsKnown vars) lits h k d i
 
 -- literals in a list
 same_record : (v w : ℕ) (p q : Bool) → v ≡ w → p ≡ q → ◌≡◌ {A = Literal} (record { variable = v; positive = p }) (record { variable = w; positive = q })
@@ -85,6 +135,61 @@ filter_cases x l rest lits false h ih = or_right (is_same l x) (has lits l) (ih 
 pub has-filtered : (test : Literal → Bool) (lits : List Literal) (l : Literal) → has (filter test lits) l ≡ true → has lits l ≡ true
 has-filtered test [] l h = h
 has-filtered test (x ∷ lits) l h = filter_cases x l (filter test lits) lits (test x) h (has-filtered test lits l)
+
+-- one literal more
+pub has-push : (lits : List Literal) (l x : Literal) → has (lits ++ l ∷ []) x ≡ (has lits x || is_same x l)
+has-push [] l x = elim (is_same x l) as (λ b. (b || false) ≡ b) [ true ↦ refl | false ↦ refl ]
+has-push (y ∷ lits) l x = or_under (is_same x y) _ _ _ (has-push lits l x)
+  where
+    or_under : (a b c d : Bool) → b ≡ (c || d) → (a || b) ≡ (a || c || d)
+    or_under true b c d e = refl
+    or_under false b c d e = e
+
+-- a literal of a variable that the list does not name
+pub unnamed : (lits : List Literal) (x : Literal) → names lits x.variable ≡ false → has lits x ≡ false
+unnamed [] x h = refl
+unnamed (l ∷ lits) x h =
+    let parts = or_parts (eqb l.variable x.variable) (names lits x.variable) h in
+    let differs : eqb x.variable l.variable ≡ false = ne_eqb _ _ (λ e. eqb-false _ _ parts.0 (sym e)) in
+    rw differs (unnamed lits x parts.1)
+
+-- how many places pass a test
+step-le : (s t : Bool) → (s ≡ true → t ≡ true) → cond s 1 0 ≤ cond t 1 0
+step-le true true h = omega arith
+step-le true false h = let e = h refl in absurd cc
+step-le false t h = omega arith
+
+pub places-le : (p q : Literal → Bool) → ((l : Literal) → p l ≡ true → q l ≡ true) → (lits : List Literal) → places p lits ≤ places q lits
+places-le p q h [] = omega arith
+places-le p q h (l ∷ lits) = omega (arith, step-le (p l) (q l) (h l), places-le p q h lits)
+
+kept_at : (p : Literal → Bool) (l : Literal) (rest : List Literal) (s t : Bool) (m n : ℕ) → p l ≡ s → (s ≡ true → t ≡ true) → m ≤ n → cond t 1 0 + n ≤ cond s 1 0 + m → (n ≤ m → AllByRecursion (λ x. p x ≡ true) rest) → AllByRecursion (λ x. p x ≡ true) (cond t (l ∷ rest) rest)
+kept_at p l rest true true m n e h le k ih = (e, ih (omega arith))
+kept_at p l rest true false m n e h le k ih = let x = h refl in absurd cc
+kept_at p l rest false true m n e h le k ih = absurd (omega arith)
+kept_at p l rest false false m n e h le k ih = ih (omega arith)
+
+-- where a weaker test passes at no more places, all that pass it pass both
+pub all-kept : (p q : Literal → Bool) → ((l : Literal) → p l ≡ true → q l ≡ true) → (lits : List Literal) → places q lits ≤ places p lits → AllByRecursion (λ x. p x ≡ true) (filter q lits)
+all-kept p q h [] k = tt
+all-kept p q h (l ∷ lits) k =
+    kept_at p l (filter q lits) (p l) (q l) (places p lits) (places q lits) refl (h l) (places-le p q h lits) k (λ le. all-kept p q h lits le)
+
+-- a literal, its negation and its like under an assignment
+flipped : (p v : Bool) → cond (not p) v (not v) ≡ not (cond p v (not v))
+flipped true v = refl
+flipped false true = refl
+flipped false false = refl
+
+pub true-negated : (values : List Bool) (l : Literal) → is_true values (negated l) ≡ not (is_true values l)
+true-negated values l = flipped l.positive _
+
+pub true-same : (values : List Bool) (a b : Literal) → is_same a b ≡ true → is_true values a ≡ is_true values b
+true-same values a b e =
+    let parts = and_parts (eqb a.variable b.variable) (cond a.positive b.positive (not b.positive)) e in
+    let variable : a.variable ≡ b.variable = eqb-true _ _ parts.0 in
+    let positive : a.positive ≡ b.positive = alike _ _ parts.1 in
+    cc
 
 -- what a hint forces
 -- there is no guard, or it is true
