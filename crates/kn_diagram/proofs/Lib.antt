@@ -3,6 +3,8 @@ pub mod MemoLemmas
 pub mod PlaceLemmas
 pub mod NodeLemmas
 pub mod JoinLemmas
+pub mod ChildLemmas
+pub mod Public
 pub mod ClauseLemmas
 pub mod WidthLemmas
 pub mod CountLemmas

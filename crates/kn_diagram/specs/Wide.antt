@@ -37,15 +37,11 @@ pub record IsWideAt (order : List ℕ) (f : (ℕ → Bool) → Bool) (variable :
   pub different : AllDiffer (map (remaining order f) ways)
   pub depend : AllByRecursion (λ way. DependsOn (remaining order f way) variable) ways
 
--- Where the function is wide at all, it is so at this variable or further down.
-pub record IsTopmost (order : List ℕ) (f : (ℕ → Bool) → Bool) (variable : ℕ) : Type 0 where
-  pub below : (other : ℕ) → IsWideAt order f other → depth_in order variable ≤ depth_in order other
-
 -- A function is wide where it is wide at some variable.
 abbrev pub IsWide : List ℕ → ((ℕ → Bool) → Bool) → Type 0
 IsWide order f = (variable : ℕ) × IsWideAt order f variable
 
--- what holds of the variable that an error names as the one where the result is wide
+-- what holds of the variable that an error names as one where the result is wide
 abbrev pub IfWide : DiagramError → (ℕ → Type 0) → Type 0
 IfWide (Wide level) P = P level
 IfWide Memory P = Unit {0}
