@@ -12,5 +12,6 @@ pub mod ReachLemmas
 pub mod WayLemmas
 pub mod WideLemmas
 pub mod DependLemmas
+pub mod FewLemmas
 pub mod TestLemmas
 pub mod GridLemmas

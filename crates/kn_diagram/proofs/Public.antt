@@ -3,3 +3,4 @@ pub use Rattle.kn_diagram.proofs.NodeLemmas.{Keeps-self, Keeps-along, depth_of-c
 pub use Rattle.kn_diagram.proofs.NodeLemmas.{depth_in-slice_index, slice_index-depth_in, split-own, split-apart, branch-is, canonical, function_of-below, has_nodes}
 pub use Rattle.kn_diagram.proofs.ChildLemmas.{is-branch, split-at, above-ignored, high-function, low-function, high-is, low-is, not_above}
 pub use Rattle.kn_diagram.proofs.JoinLemmas.{IsRight-kept, IsExplained-kept, AreExplained-kept, AreExplained-more, found-right, found-more, found-front, found-other, found-own, has_pair-more}
+pub use Rattle.kn_diagram.proofs.FewLemmas.{few-narrow}

@@ -27,6 +27,10 @@ DependsOn f variable = (v : ℕ → Bool) × (f (λ x. if x == variable then tru
 abbrev pub Ignores : ((ℕ → Bool) → Bool) → ℕ → Type 0
 Ignores f variable = (v : ℕ → Bool) (b : Bool) → f (λ x. if x == variable then b else v x) ≡ f v
 
+-- A function hangs on the variables of an order alone.
+abbrev pub HangsOn : List ℕ → ((ℕ → Bool) → Bool) → Type 0
+HangsOn order f = (v w : ℕ → Bool) → ((x : ℕ) → depth_in order x < length order → v x ≡ w x) → f v ≡ f w
+
 -- There are 257 ways down to the variable that leave 257 different functions, each of which depends on
 -- the variable.
 pub record IsWideAt (order : List ℕ) (f : (ℕ → Bool) → Bool) (variable : ℕ) : Type 0 where

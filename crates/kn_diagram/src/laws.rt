@@ -2,6 +2,7 @@ ghost use Rattle.std.specs.Prelude.{ℕ, ◌≡◌, ◌<◌, ◌≤◌, Bool, So
 ghost use Rattle.kn_diagram.specs.declared.trace.Met.{Met};
 ghost use Rattle.kn_diagram.specs.Diagrams.{Table, IsTable, depth_of, high_at, low_at};
 ghost use Rattle.kn_diagram.specs.Traces.{IsRight, AreExplained, found};
+ghost use Rattle.kn_diagram.specs.Wide.{HangsOn, IsWide};
 
 /// A law over the definitions, and no code: take a depth that is not below a pair of nodes and its result.
 /// The result for the pair's two nodes for "true" at that depth is the result's node for "true" there, and
@@ -19,4 +20,9 @@ pub fn results_have_their_halves()
 pub fn found_results_are_right()
     ensures { (join : Bool → Bool → Bool) (d : Table) (entries : List Met) (u v w : ℕ) → AreExplained join d [] entries → found entries u v ≡ Some w
         → IsRight join d (record { u = u; v = v; w = w }) }
+{}
+
+/// A law over the definitions, and no code: a function of at most 12 variables is wide nowhere.
+pub fn few_variables_are_narrow()
+    ensures { (order : List ℕ) (f : (ℕ → Bool) → Bool) → length order ≤ 12 → HangsOn order f → IsWide order f → ⊥ }
 {}

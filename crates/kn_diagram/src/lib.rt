@@ -24,7 +24,7 @@ mod width;
 
 pub use diagrams::Diagrams;
 pub use error::DiagramError;
-pub use laws::{found_results_are_right, results_have_their_halves};
+pub use laws::{few_variables_are_narrow, found_results_are_right, results_have_their_halves};
 pub use memo::Memo;
 pub use node::Node;
 pub use trace::{Met, Trace};
