@@ -1,9 +1,9 @@
 -- The two nodes of a node at a depth are what its function is where the variable at that depth is true and
 -- where it is false. So the result for two nodes at a depth is the node, at that depth, of the result for
 -- the pair.
-use Rattle.std.proofs.Common.{ℕ, zero, suc, ◌≡◌, ◌+◌, ◌<◌, ◌≤◌, ◌==◌, ◌⊎◌, inl, inr, Bool, true, false, List, length, slice_index, refl, sym, ap, subst, ◌∙◌, arith}
+use Rattle.std.proofs.Common.{ℕ, zero, suc, ◌≡◌, ◌<◌, ◌≤◌, ◌==◌, ◌⊎◌, inl, inr, Bool, true, false, length, slice_index, refl, sym, ap, subst, ◌∙◌, arith}
 use Rattle.std.proofs.lemmas.Bool.{cases_lt, cases_eq, cond-true, cond-false, eq-eqb, ne_eqb}
-use Rattle.kn_diagram.specs.Diagrams.{Table, IsTable, IsNode, HasNodes, IsSplit, IsBranch, with_value, function_of, depth_of, high_of, low_of, high_at, low_at, depth_in}
+use Rattle.kn_diagram.specs.Diagrams.{Table, IsTable, IsNode, HasNodes, IsSplit, with_value, function_of, depth_of, high_of, low_of, high_at, low_at, depth_in}
 use Rattle.kn_diagram.specs.Traces.{IsRight}
 use Rattle.kn_diagram.proofs.NodeLemmas.{split-apart, split-own, branch-is, depth_in-slice_index, canonical, function_of-below, has_nodes}
 

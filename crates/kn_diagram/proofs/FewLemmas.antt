@@ -1,12 +1,12 @@
 -- Over at most 12 variables no function is wide: there are at most 256 ways down to a variable of the first
 -- nine, and at most 256 functions of the last three.
-use Rattle.std.proofs.Common.{ℕ, zero, suc, ◌≡◌, ◌+◌, ◌<◌, ◌≤◌, ◌==◌, ◌⊎◌, inl, inr, Bool, true, false, if◌then◌else◌, List, [], ◌∷◌, length, map, slice_index, slice_index_or, nat_lt, nat_eq, refl, sym, ap, subst, ◌∙◌, arith, true≢false}
+use Rattle.std.proofs.Common.{ℕ, zero, suc, ◌≡◌, ◌+◌, ◌<◌, ◌≤◌, ◌==◌, ◌⊎◌, inl, inr, Bool, true, false, if◌then◌else◌, List, [], ◌∷◌, length, map, slice_index, slice_index_or, nat_lt, nat_eq, refl, sym, ap, ◌∙◌, arith, true≢false}
 use Rattle.std.specs.List.{AllByRecursion, IsDistinct, list_any}
 use Rattle.std.proofs.lemmas.Bool.{ne_eqb, eqb-true, eq-eqb, cond-true, cond-false, or_cases, cases_eq, cases_lt, lt-ltb, le-ltb}
 use Rattle.std.proofs.lemmas.List.{length-map}
 use Rattle.std.proofs.lemmas.Map.Steps.{length-le_from_distinct_below}
 use Rattle.kn_diagram.specs.Diagrams.{depth_in}
-use Rattle.kn_diagram.specs.Wide.{remaining, Differ, AllDiffer, HangsOn, IsWideAt, IsWide}
+use Rattle.kn_diagram.specs.Wide.{remaining, Differ, AllDiffer, HangsOn, IsWide}
 use Rattle.kn_diagram.proofs.NodeLemmas.{slice_index-depth_in}
 
 -- truth values as a number

@@ -6,4 +6,5 @@ pub mod MeaningLemmas
 pub mod RunLemmas
 pub mod OneRunLemmas
 pub mod RebuiltLemmas
+pub mod HangLemmas
 pub mod Public

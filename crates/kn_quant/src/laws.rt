@@ -1,6 +1,6 @@
-ghost use Rattle.std.specs.Prelude.{ℕ, ◌≡◌, Bool, true, List, map};
+ghost use Rattle.std.specs.Prelude.{ℕ, ◌≡◌, ◌+◌, ◌≤◌, Bool, true, List, length, map};
 ghost use Rattle.std.specs.List.{AllByRecursion};
-ghost use Rattle.kn_logic.specs.Groups.{Gathered};
+ghost use Rattle.kn_logic.specs.Groups.{Gathered, IsGroup};
 ghost use Rattle.kn_quant.specs.Runs.{Function, Step, Runs, order_of, clause_function, AreNarrow, IsFirstWide, AgreeBut};
 ghost use Rattle.kn_quant.specs.Rebuilt.{rebuilt};
 
@@ -20,4 +20,10 @@ pub fn rebuilt_values_hold()
         → Runs ys pieces steps buckets f → f v ≡ true → AllByRecursion (λ p. p (rebuilt buckets v) ≡ true) pieces }
     ensures kept { (ys : List ℕ) (pieces : List Function) (steps : List Step) (buckets : List (ℕ × Function)) (f : Function) (v : ℕ → Bool)
         → Runs ys pieces steps buckets f → AgreeBut ys v (rebuilt buckets v) }
+{}
+
+/// A law over the definitions, and no code: a group of at most 12 variables, auxiliary and border together,
+/// has no wide stage.
+pub fn small_groups_are_narrow()
+    ensures { (g : Gathered) (stage level : ℕ) → IsGroup g → length g.aux + length g.border ≤ 12 → IsFirstWide g stage level → ⊥ }
 {}
