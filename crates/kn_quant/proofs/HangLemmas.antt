@@ -1,6 +1,6 @@
 -- The functions of a run hang on the variables of its pieces alone. So a group of few variables has no wide
 -- stage.
-use Rattle.std.proofs.Common.{ℕ, ◌≡◌, ◌+◌, ◌<◌, ◌≤◌, ◌==◌, inl, inr, Bool, true, false, not, ◌&&◌, ◌||◌, if◌then◌else◌, List, [], ◌∷◌, ◌++◌, length, map, reverse, refl, sym, ap, subst, ◌∙◌, arith, length-append}
+use Rattle.std.proofs.Common.{ℕ, ◌≡◌, ◌+◌, ◌<◌, ◌≤◌, ◌==◌, inl, inr, Bool, true, false, not, ◌&&◌, ◌||◌, if◌then◌else◌, List, [], ◌∷◌, ◌++◌, length, map, refl, sym, subst, arith, length-append}
 use Rattle.std.specs.List.{list_any, AllByRecursion}
 use Rattle.std.proofs.lemmas.List.{length-map, length-reverse}
 use Rattle.kn_logic.specs.Literals.{Literal}
@@ -10,7 +10,7 @@ use Rattle.kn_diagram.specs.Diagrams.{with_value, depth_in, is_true_by}
 use Rattle.kn_diagram.specs.Wide.{HangsOn}
 use Rattle.kn_diagram.proofs.Public.{few-narrow}
 use Rattle.kn_quant.specs.Quantified.{some_value}
-use Rattle.kn_quant.specs.Runs.{Function, Step, Join, Quantify, given, both, joins, whole, all_joins, Splits, Empties, IsTurn, Begins, order_of, clause_function, IsFirstWide}
+use Rattle.kn_quant.specs.Runs.{Function, Step, Quantify, given, both, joins, whole, all_joins, Splits, Empties, IsTurn, Begins, order_of, clause_function, IsFirstWide}
 use Rattle.kn_quant.specs.Eliminations.{AreInOrder}
 use Rattle.kn_quant.proofs.OrderLemmas.{all-in-order}
 
@@ -44,7 +44,7 @@ with-agree order y b v w agree x h = λ i. if x == y then b else agree x h i
 some-hangs : (order : List ℕ) (y : ℕ) (p : Function) → HangsOn order p → HangsOn order (some_value y p)
 some-hangs order y p h v w agree =
     λ i. h (with_value v y true) (with_value w y true) (with-agree order y true v w agree) i
-        || h (with_value v y false) (with_value w y false) (with-agree order y false v w agree) i
+    || h (with_value v y false) (with_value w y false) (with-agree order y false v w agree) i
 
 whole-hangs : (order : List ℕ) (p : Function) (ps : List Function) → HangsOn order p → AllHang order ps → HangsOn order (whole p ps)
 whole-hangs order p [] h hs = h
@@ -83,8 +83,7 @@ emptied-hang : (order : List ℕ) (y : ℕ) (ps bucket rest next : List Function
 emptied-hang order y ps [] rest next steps own e h b r = (subst (AllHang order) (sym e.0) h, subst (StepsHang order) (sym e.1) tt)
 emptied-hang order y ps (b ∷ bs) rest next steps own e h k r =
     let f = whole b bs in
-    let last = some-hangs order y f (whole-hangs order b bs k.0 k.1) in
-    (
+    let last = some-hangs order y f (whole-hangs order b bs k.0 k.1) in (
       subst (AllHang order) (sym e.0) (hang-append order rest (some_value y f ∷ []) r (last, tt)),
       subst (StepsHang order) (sym e.1) (steps-append order (joins b bs) (Quantify y f ∷ []) (joins-hang order b bs k.0 k.1) (last, tt)),
     )

@@ -1,5 +1,5 @@
 -- Pieces have one run.
-use Rattle.std.proofs.Common.{ℕ, ◌≡◌, ◌+◌, inl, inr, Bool, true, false, List, [], ◌∷◌, ◌++◌, length, map, refl, sym, ap, subst, ◌∙◌, append_assoc}
+use Rattle.std.proofs.Common.{ℕ, ◌≡◌, inl, inr, true, false, List, [], ◌∷◌, ◌++◌, map, sym, ap, subst, ◌∙◌, append_assoc}
 use Rattle.kn_logic.specs.Groups.{Gathered}
 use Rattle.kn_diagram.specs.Wide.{DependsOn, Ignores, IsWide}
 use Rattle.kn_quant.specs.Runs.{Function, Step, given, Splits, Empties, IsTurn, Runs, Begins, order_of, clause_function, AreNarrow, IsFirstWide}

@@ -1,5 +1,5 @@
 -- The values that the buckets of a run give make its pieces true.
-use Rattle.std.proofs.Common.{ℕ, ◌≡◌, ◌==◌, ◌⊎◌, inl, inr, Bool, true, false, ◌||◌, List, [], ◌∷◌, ◌++◌, sym, ap, subst, ◌∙◌, true≢false, refl}
+use Rattle.std.proofs.Common.{ℕ, ◌≡◌, ◌==◌, Bool, true, false, ◌||◌, List, [], ◌∷◌, ◌++◌, sym, ap, subst, ◌∙◌, true≢false, refl}
 use Rattle.std.proofs.lemmas.Bool.{eq-eqb, ne_eqb, cond-false, or_parts}
 use Rattle.kn_logic.specs.Groups.{is_among}
 use Rattle.kn_diagram.specs.Diagrams.{with_value}

@@ -1,5 +1,5 @@
 -- "For some value of a variable": of functions, and of the nodes of a table.
-use Rattle.std.specs.Prelude.{ℕ, ◌≡◌, ◌<◌, ◌≤◌, ◌==◌, ◌||◌, Bool, true, false, if◌then◌else◌, List, [], ◌∷◌, ◌++◌, Some, None}
+use Rattle.std.specs.Prelude.{ℕ, ◌≡◌, ◌<◌, ◌≤◌, ◌||◌, Bool, true, false, List, [], ◌∷◌, ◌++◌, Some, None}
 use Rattle.kn_diagram.specs.declared.trace.Met.{Met}
 use Rattle.kn_diagram.specs.Diagrams.{Table, IsNode, with_value, function_of, depth_of, high_of, low_of, depth_in}
 use Rattle.kn_diagram.specs.Traces.{found, has_pair, AreExplained}
