@@ -8,7 +8,7 @@ use Rattle.kn_logic.specs.Literals.{Literal}
 use Rattle.kn_logic.specs.Constraints.{Bounded}
 use Rattle.kn_logic.specs.Formulas.{Problem}
 use Rattle.kn_bytes.specs.Outside.{Got, GotPrefix}
-use Rattle.kn_bytes.proofs.Joined.{Got-append}
+use Rattle.kn_bytes.proofs.Public.{Got-append}
 use Rattle.kn_lines.specs.declared.line.Line.{Line}
 use Rattle.kn_lines.specs.declared.line.Line.TheVariants.{Lemma, Learned}
 use Rattle.kn_rules.specs.declared.given.Given.{Given}
