@@ -22,7 +22,7 @@ pub const MAX_COUNTED: u64 = 10_000_000;
 /// each model of the formula, with some values for the further variables, is one of the clauses, and each
 /// model of the clauses, cut to the formula's variables, is one of the formula. The formula has at most
 /// 1,000,000 variables and 10,000,000 constraints. An error exactly where the clauses need more variables
-/// than `MAX_COUNTED`, which is found before the first is made, or where memory is wanting. The time is in
+/// than `MAX_COUNTED`, which is found before the first is made, or where memory is short. The time is in
 /// proportion to the literals that are read and written.
 pub fn counted(alloc: Global, f: &Formula) -> Result<Formula, CountError>
     requires vars { f.now.vars ≤ 1000000 }

@@ -66,25 +66,25 @@ no_formula P s text answer told sound fault short (files.refused {line = line} {
 
 check_complete : (formula proof : Change Source) (text more : List ℕ) (answer : Answer) (told : Option (List ℕ)) → IsSound formula text → IsSound proof more
     → CheckRow formula proof answer told → Decides text more answer
-check_complete formula proof text more answer told sound also (files.given f accepts (checks.verified proves)) =
+check_complete formula proof text more answer told sound also (files.accepted f accepts (checks.verified proves)) =
     (f, spelled formula text f sound accepts, subst (IsProof f) (all_told proof more proves.text also.told proves.whole) proves.accepted)
-check_complete formula proof text more answer told sound also (files.given f accepts (checks.not_verified {line = line} {why = why} fails)) =
+check_complete formula proof text more answer told sound also (files.accepted f accepts (checks.not_verified {line = line} {why = why} fails)) =
     (f, spelled formula text f sound accepts, subst (λ t. IsFirstWrong f t (fault line why)) (all_told proof more fails.text also.told fails.whole) fails.wrong)
-check_complete formula proof text more answer told sound also (files.given f accepts (checks.unread (files.too_long many))) = absurd (not_too_long proof more also many)
-check_complete formula proof text more answer told sound also (files.given f accepts (checks.unread (files.fails faults))) = absurd (no_rise _ _ also.quiet faults.rose)
-check_complete formula proof text more answer told sound also (files.given f accepts (checks.unread files.no_memory)) = tt
-check_complete formula proof text more answer told sound also (files.given f accepts checks.no_memory) = tt
-check_complete formula proof text more answer told sound also (files.not_given none same) =
+check_complete formula proof text more answer told sound also (files.accepted f accepts (checks.unread (files.too_long many))) = absurd (not_too_long proof more also many)
+check_complete formula proof text more answer told sound also (files.accepted f accepts (checks.unread (files.fails faults))) = absurd (no_rise _ _ also.quiet faults.rose)
+check_complete formula proof text more answer told sound also (files.accepted f accepts (checks.unread files.no_memory)) = tt
+check_complete formula proof text more answer told sound also (files.accepted f accepts checks.no_memory) = tt
+check_complete formula proof text more answer told sound also (files.no_formula none same) =
     no_formula (Decides text more) formula text answer told sound (λ line why known. known) tt none
 
 solve_complete : (budget : ℕ) (formula : Change Source) (proof : Change Sink) (text : List ℕ) (answer : Answer) (told : Option (List ℕ)) → IsSound formula text → IsQuiet proof
     → SolveRow budget formula proof answer told → Concludes text answer
-solve_complete budget formula proof text answer told sound quiet (files.given f accepts (solves.model values bytes writes holds)) = (f, spelled formula text f sound accepts)
-solve_complete budget formula proof text answer told sound quiet (files.given f accepts (solves.refuted bytes writes is_proof none)) = (f, spelled formula text f sound accepts)
-solve_complete budget formula proof text answer told sound quiet (files.given f accepts (solves.unknown bytes writes spent)) = (f, spelled formula text f sound accepts)
-solve_complete budget formula proof text answer told sound quiet (files.given f accepts (solves.no_memory front)) = tt
-solve_complete budget formula proof text answer told sound quiet (files.given f accepts (solves.fails rose front)) = no_rise _ _ quiet rose
-solve_complete budget formula proof text answer told sound quiet (files.not_given none same) =
+solve_complete budget formula proof text answer told sound quiet (files.accepted f accepts (solves.model values bytes writes holds)) = (f, spelled formula text f sound accepts)
+solve_complete budget formula proof text answer told sound quiet (files.accepted f accepts (solves.refuted bytes writes is_proof none)) = (f, spelled formula text f sound accepts)
+solve_complete budget formula proof text answer told sound quiet (files.accepted f accepts (solves.unknown bytes writes spent)) = (f, spelled formula text f sound accepts)
+solve_complete budget formula proof text answer told sound quiet (files.accepted f accepts (solves.no_memory front)) = tt
+solve_complete budget formula proof text answer told sound quiet (files.accepted f accepts (solves.fails rose front)) = no_rise _ _ quiet rose
+solve_complete budget formula proof text answer told sound quiet (files.no_formula none same) =
     no_formula (Concludes text) formula text answer told sound (λ line why known. known) tt none
 
 converted_complete : (s : Change Source) (text : List ℕ) (f : Problem) (answer : Answer) (told : Option (List ℕ)) → Spells text f → ConvertedRow f answer told → Converts text answer
@@ -93,8 +93,8 @@ converted_complete s text f answer told spells (conversions.too_large large) = i
 converted_complete s text f answer told spells conversions.no_memory = tt
 
 convert_complete : (formula : Change Source) (text : List ℕ) (answer : Answer) (told : Option (List ℕ)) → IsSound formula text → ConvertRow formula answer told → Converts text answer
-convert_complete formula text answer told sound (files.given f accepts row) = converted_complete formula text f answer told (spelled formula text f sound accepts) row
-convert_complete formula text answer told sound (files.not_given none same) =
+convert_complete formula text answer told sound (files.accepted f accepts row) = converted_complete formula text f answer told (spelled formula text f sound accepts) row
+convert_complete formula text answer told sound (files.no_formula none same) =
     no_formula (Converts text) formula text answer told sound (λ line why known. inl known) tt none
 
 -- whatever was told

@@ -31,11 +31,11 @@ no_formula P s answer told long fault short refused (files.unread row) = unread 
 no_formula P s answer told long fault short refused (files.refused {line = line} {why = why} rejects) = refused line why
 
 check_headline : (formula proof : Change Source) (answer : Answer) (told : Option (List ℕ)) → CheckRow formula proof answer told → CheckHeadline formula proof answer
-check_headline formula proof answer told (files.given f accepts (checks.verified proves)) = (f, accepts, proves)
-check_headline formula proof answer told (files.given f accepts (checks.not_verified fails)) = tt
-check_headline formula proof answer told (files.given f accepts (checks.unread row)) = unread (CheckHeadline formula proof) _ proof answer told tt tt tt row
-check_headline formula proof answer told (files.given f accepts checks.no_memory) = tt
-check_headline formula proof answer told (files.not_given none same) = no_formula (CheckHeadline formula proof) formula answer told (λ w. tt) (λ w. tt) tt (λ line why. tt) none
+check_headline formula proof answer told (files.accepted f accepts (checks.verified proves)) = (f, accepts, proves)
+check_headline formula proof answer told (files.accepted f accepts (checks.not_verified fails)) = tt
+check_headline formula proof answer told (files.accepted f accepts (checks.unread row)) = unread (CheckHeadline formula proof) _ proof answer told tt tt tt row
+check_headline formula proof answer told (files.accepted f accepts checks.no_memory) = tt
+check_headline formula proof answer told (files.no_formula none same) = no_formula (CheckHeadline formula proof) formula answer told (λ w. tt) (λ w. tt) tt (λ line why. tt) none
 
 -- the sink of the answers got the text, where there is one
 abbrev GotText : Change Sink → Option (List ℕ) → Type 0
@@ -43,12 +43,12 @@ GotText out None = Unit {0}
 GotText out (Some text) = Got out.old.written out.new.written text
 
 solve_headline : (budget : ℕ) (formula : Change Source) (proof out : Change Sink) (answer : Answer) (told : Option (List ℕ)) → GotText out told → SolveRow budget formula proof answer told → SolveHeadline budget formula proof out answer
-solve_headline budget formula proof out answer told got (files.given f accepts (solves.model values bytes writes holds)) = (f, values, accepts, holds, got)
-solve_headline budget formula proof out answer told got (files.given f accepts (solves.refuted bytes writes is_proof none)) = (f, bytes, accepts, writes.got, is_proof, none)
-solve_headline budget formula proof out answer told got (files.given f accepts (solves.unknown bytes writes spent)) = (refl, (f, bytes, accepts, writes.got, writes.steps, spent))
-solve_headline budget formula proof out answer told got (files.given f accepts (solves.no_memory front)) = tt
-solve_headline budget formula proof out answer told got (files.given f accepts (solves.fails rose front)) = tt
-solve_headline budget formula proof out answer told got (files.not_given none same) = no_formula (SolveHeadline budget formula proof out) formula answer told (λ w. tt) (λ w. tt) tt (λ line why. tt) none
+solve_headline budget formula proof out answer told got (files.accepted f accepts (solves.model values bytes writes holds)) = (f, values, accepts, holds, got)
+solve_headline budget formula proof out answer told got (files.accepted f accepts (solves.refuted bytes writes is_proof none)) = (f, bytes, accepts, writes.got, is_proof, none)
+solve_headline budget formula proof out answer told got (files.accepted f accepts (solves.unknown bytes writes spent)) = (refl, (f, bytes, accepts, writes.got, writes.steps, spent))
+solve_headline budget formula proof out answer told got (files.accepted f accepts (solves.no_memory front)) = tt
+solve_headline budget formula proof out answer told got (files.accepted f accepts (solves.fails rose front)) = tt
+solve_headline budget formula proof out answer told got (files.no_formula none same) = no_formula (SolveHeadline budget formula proof out) formula answer told (λ w. tt) (λ w. tt) tt (λ line why. tt) none
 
 converted_headline : (formula : Change Source) (out : Change Sink) (f : Problem) (answer : Answer) (told : Option (List ℕ)) → Accepts formula f → GotText out told → ConvertedRow f answer told → ConvertHeadline formula out answer
 converted_headline formula out f answer told accepts got (conversions.done countable same) = (f, accepts, got, same)
@@ -56,8 +56,8 @@ converted_headline formula out f answer told accepts got (conversions.too_large 
 converted_headline formula out f answer told accepts got conversions.no_memory = tt
 
 convert_headline : (formula : Change Source) (out : Change Sink) (answer : Answer) (told : Option (List ℕ)) → GotText out told → ConvertRow formula answer told → ConvertHeadline formula out answer
-convert_headline formula out answer told got (files.given f accepts row) = converted_headline formula out f answer told accepts got row
-convert_headline formula out answer told got (files.not_given none same) = no_formula (ConvertHeadline formula out) formula answer told (λ w. tt) (λ w. tt) tt (λ line why. tt) none
+convert_headline formula out answer told got (files.accepted f accepts row) = converted_headline formula out f answer told accepts got row
+convert_headline formula out answer told got (files.no_formula none same) = no_formula (ConvertHeadline formula out) formula answer told (λ w. tt) (λ w. tt) tt (λ line why. tt) none
 
 row_headline : (asked : Asked) (all : Files) (out : Change Sink) (answer : Answer) (told : Option (List ℕ)) → GotText out told → RowOf (Some asked) all answer told → HeadlineOf asked all out answer
 row_headline (check f p) all out answer told got row = check_headline all.formula all.proof_in answer told row

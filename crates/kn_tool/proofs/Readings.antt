@@ -72,10 +72,10 @@ row_of_verdict proof f text read (checked.NotVerified line why) r whole same acc
     (checks.not_verified {line = line} {why = why} (record { text = text; whole = whole; wrong = subst (λ t. IsFirstWrong f t (fault line why)) same wrong; none = subst (λ t. IsProof f t → ⊥) same none }))
     checks.no_memory is
 
-pub checked_reply : (proof : Change Source) (f : Problem) (text read : List ℕ) (found : Checked) (given : Answer) (r : Reply) → GivesAll proof text → read ≡ text
+pub checked_reply : (proof : Change Source) (f : Problem) (text read : List ℕ) (found : Checked) (answer : Answer) (r : Reply) → GivesAll proof text → read ≡ text
     → IfVerified found (IsProof f read) → IfVerified found (IsUnsatisfiable f) → IfFault found (IsFirstWrong f read) → IfFault found (λ _. IsProof f read → ⊥)
-    → given ≡ verdict_of found → IsPlain given r → IsReply (CheckedRow proof f) r
-checked_reply proof f text read found given r whole same accepted refuted wrong none is plain =
+    → answer ≡ verdict_of found → IsPlain answer r → IsReply (CheckedRow proof f) r
+checked_reply proof f text read found answer r whole same accepted refuted wrong none is plain =
     row_of_verdict proof f text read found r whole same accepted refuted wrong none (subst (λ a. IsPlain a r) is plain)
 
 -- a formula in clauses

@@ -7,7 +7,7 @@ use Rattle.kn_tool.specs.declared.reply.Reply.{Reply}
 use Rattle.kn_tool.specs.declared.reply.Reply.TheVariants as reply
 use Rattle.kn_tool.specs.Answers.{own_text, usage_text}
 use Rattle.kn_tool.specs.Changes.{Change, Source, Sink}
-use Rattle.kn_tool.specs.Files.{Rows, Accepts, NoFormulaRow, FormulaRow, given, not_given}
+use Rattle.kn_tool.specs.Files.{Rows, Accepts, NoFormulaRow, FormulaRow, accepted, no_formula}
 use Rattle.kn_tool.specs.Outcomes.{Told, whole, silent, cut, AnswersUsage}
 use Rattle.kn_tool.specs.Replies.{IsReply, IsPlain, IsShort, Sent, IsTold}
 
@@ -21,15 +21,15 @@ pub short_reply : (row : Rows) (r : Reply) → row NoMemory None → IsShort r �
 short_reply row r none is = subst (IsReply row) (sym is) none
 
 -- a command that reads a formula
-pub given_reply : (s : Change Source) (Stays : Type 0) (row : Problem → Rows) (f : Problem) (r : Reply) → Accepts s f → IsReply (row f) r → IsReply (FormulaRow s Stays row) r
-given_reply s Stays row f (reply.Text answer text) accepts is = given f accepts is
-given_reply s Stays row f reply.Usage accepts is = given f accepts is
-given_reply s Stays row f (reply.Silent answer) accepts is = given f accepts is
+pub accepted_reply : (s : Change Source) (Stays : Type 0) (row : Problem → Rows) (f : Problem) (r : Reply) → Accepts s f → IsReply (row f) r → IsReply (FormulaRow s Stays row) r
+accepted_reply s Stays row f (reply.Text answer text) accepts is = accepted f accepts is
+accepted_reply s Stays row f reply.Usage accepts is = accepted f accepts is
+accepted_reply s Stays row f (reply.Silent answer) accepts is = accepted f accepts is
 
-pub not_given_reply : (s : Change Source) (Stays : Type 0) (row : Problem → Rows) (r : Reply) → Stays → IsReply (NoFormulaRow s) r → IsReply (FormulaRow s Stays row) r
-not_given_reply s Stays row (reply.Text answer text) stays is = not_given is stays
-not_given_reply s Stays row reply.Usage stays is = not_given is stays
-not_given_reply s Stays row (reply.Silent answer) stays is = not_given is stays
+pub no_formula_reply : (s : Change Source) (Stays : Type 0) (row : Problem → Rows) (r : Reply) → Stays → IsReply (NoFormulaRow s) r → IsReply (FormulaRow s Stays row) r
+no_formula_reply s Stays row (reply.Text answer text) stays is = no_formula is stays
+no_formula_reply s Stays row reply.Usage stays is = no_formula is stays
+no_formula_reply s Stays row (reply.Silent answer) stays is = no_formula is stays
 
 -- one row within another table
 pub wider_reply : (row table : Rows) (r : Reply) → ((answer : Answer) (told : Option (List ℕ)) → row answer told → table answer told) → IsReply row r → IsReply table r

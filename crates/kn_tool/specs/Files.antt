@@ -41,5 +41,5 @@ pub data NoFormulaRow (s : Change Source) : Answer → Option (List ℕ) → Typ
 -- The rows of a command that reads a formula: those of the formula that the file spells; or those of a file that gave
 -- none, with what stays as it was.
 pub data FormulaRow (s : Change Source) (Stays : Type 0) (row : Problem → Rows) : Answer → Option (List ℕ) → Type 0 where
-  given : {answer : Answer} {told : Option (List ℕ)} (f : Problem) → Accepts s f → row f answer told → FormulaRow s Stays row answer told
-  not_given : {answer : Answer} {told : Option (List ℕ)} → NoFormulaRow s answer told → Stays → FormulaRow s Stays row answer told
+  accepted : {answer : Answer} {told : Option (List ℕ)} (f : Problem) → Accepts s f → row f answer told → FormulaRow s Stays row answer told
+  no_formula : {answer : Answer} {told : Option (List ℕ)} → NoFormulaRow s answer told → Stays → FormulaRow s Stays row answer told
