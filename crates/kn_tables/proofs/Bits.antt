@@ -25,7 +25,7 @@ or_test x y p q =
 not_test : (x : ℕ) → x < 2 → (1 - x == 1) ≡ not (x == 1)
 not_test x p = elim (low_cases x p) [ inl e ↦ rw e refl | inr e ↦ rw e refl ]
 
-same_test : (x y : ℕ) → x < 2 → y < 2 → (x == 1) ≡ (y == 1) → x ≡ y
+pub same_test : (x y : ℕ) → x < 2 → y < 2 → (x == 1) ≡ (y == 1) → x ≡ y
 same_test x y p q h =
     elim (low_cases x p) [
       inl e ↦ elim (low_cases y q) [ inl f ↦ e ∙ sym f

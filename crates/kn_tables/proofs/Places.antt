@@ -2,7 +2,9 @@
 use Rattle.std.proofs.Common.{◌≡◌, ℕ, ◌+◌, ◌-◌, ◌*◌, ◌/◌, ◌%◌, ◌^◌, ◌<◌, ◌≤◌, ◌≢◌, ◌⊎◌, inl, inr, Bool, true, false, not, ◌&&◌, ◌||◌, cond, eqb, bit_and, bit_or, refl, sym, ap, ◌∙◌, subst, arith, List, [], ◌∷◌, get_or}
 use Rattle.std.specs.Prelude.{◌==◌, if◌then◌else◌, slice_index}
 use Rattle.std.proofs.lemmas.Bool.{cases_lt, cases_Bool, cases_eq, cond-true, cond-false, le-leb, lt-leb, eq-eqb, ne_eqb, agree_below, agree_below_at, true≢false}
-use Rattle.std.proofs.lemmas.Nat.{pow_pos, pow-add, div-add-mod', div-mul-add, mod-mul-add, mod_below, div_below, mul-add-lt}
+use Rattle.std.specs.Int.{w64}
+use Rattle.std.proofs.lemmas.Nat.Bits.{bit_at_set_same, bit_at_set_other, bit_at_clear_same, bit_at_clear_other}
+use Rattle.std.proofs.lemmas.Nat.{and_le_l, pow_pos, pow-add, div-add-mod', div-mul-add, mod-mul-add, mod_below, div_below, mul-add-lt}
 use Rattle.std.proofs.Math.Nat.{pow-le-pow_right}
 use Rattle.kn_tables.specs.Indices.{has_bit, index_with}
 use Rattle.kn_tables.specs.Tables.{some_value_at}
@@ -194,3 +196,22 @@ module _ (mask j w p : ℕ) (masks : (q : ℕ) → q < 64 → has_bit mask q ≡
 
   pub folded-is : has_bit (folded mask (2 ^ j) w) p ≡ some_value_at j (has_bit w) p
   folded-is = elim (cases_Bool (has_bit p j)) [ inl t ↦ at_true t | inr f ↦ at_false f ]
+
+-- ---- one bit set or cleared
+
+pub set-is : (k j : ℕ) → j < 64 → bit_or k (1 * 2 ^ j % 2 ^ 64) ≡ index_with k j true
+set-is k j within = same_from_has_bits (bit_or k (1 * 2 ^ j % 2 ^ 64)) (index_with k j true)
+    (λ i. elim (cases_eq i j) [
+      inl e ↦ subst (λ m. has_bit (bit_or k (1 * 2 ^ j % 2 ^ 64)) m ≡ has_bit (index_with k j true) m) (sym e)
+        (ap (λ m. eqb m 1) (bit_at_set_same w64 k j within) ∙ sym (has_bit-with_same k j true))
+    | inr ne ↦ ap (λ m. eqb m 1) (bit_at_set_other w64 k j within i ne) ∙ sym (has_bit-with_other k j true i ne) ])
+
+pub clear-is : (k j : ℕ) → k < 64 → j < 6 → bit_and k (2 ^ 64 - 1 - 1 * 2 ^ j % 2 ^ 64) ≡ index_with k j false
+clear-is k j low within = same_from_has_bits (bit_and k (2 ^ 64 - 1 - 1 * 2 ^ j % 2 ^ 64)) (index_with k j false)
+    (λ i. elim (cases_eq i j) [
+      inl e ↦ subst (λ m. has_bit (bit_and k (2 ^ 64 - 1 - 1 * 2 ^ j % 2 ^ 64)) m ≡ has_bit (index_with k j false) m) (sym e)
+        (ap (λ m. eqb m 1) (bit_at_clear_same w64 k j (omega arith)) ∙ sym (has_bit-with_same k j false))
+    | inr ne ↦ elim (cases_lt i 64) [
+        inl few ↦ ap (λ m. eqb m 1) (bit_at_clear_other w64 k j (omega arith) i few ne) ∙ sym (has_bit-with_other k j false i ne)
+      | inr more ↦ has_bit-above (bit_and k (2 ^ 64 - 1 - 1 * 2 ^ j % 2 ^ 64)) 6 i (omega (arith, and_le_l k (2 ^ 64 - 1 - 1 * 2 ^ j % 2 ^ 64))) (omega arith)
+          ∙ sym (has_bit-with_other k j false i ne ∙ has_bit-above k 6 i low (omega arith)) ] ])

@@ -5,7 +5,7 @@ ghost use Rattle.kn_tables.specs.Tables.{IsTable, AreBelow, is_true_at, value_at
 use crate::TableLit;
 use crate::join::{Joining, join};
 use crate::quantify::{join_halves, join_partners};
-use crate::words::{clause_word, count_word, equal_words, word_count};
+use crate::words::{clause_word, count_word, equal_words, filled, first_unequal_bit, word_count};
 use std::marker::Model;
 
 /// A truth value for each index below 2^n, where n is the number of variables, at most 12.
@@ -33,10 +33,9 @@ impl Table {
         requires { n ≤ 12 }
         ensures { IsTable n (λ _. value) result }
     {
-        let word = if value { u64::MAX } else { 0 };
         Table {
             vars: n,
-            words: [word; 64],
+            words: filled(value),
         }
     }
 
@@ -120,7 +119,7 @@ impl Table {
         if place == count {
             return None;
         }
-        let bit = (self.words[place] ^ other.words[place]).trailing_zeros() as usize;
+        let bit = first_unequal_bit(self.words[place], other.words[place]);
         let index = (64 * place + bit) as u16;
         if index < 1 << self.vars {
             Some(index)

@@ -25,6 +25,13 @@ pub fn word_count(vars: u8) -> usize
     if vars <= 6 { 1 } else { 1 << (vars - 6) }
 }
 
+/// The words of a table with the same value at each index.
+pub fn filled(value: bool) -> [u64; 64]
+    ensures { (k : ℕ) → k < 64 → HasValues (λ _. value) k (slice_index result k) }
+{
+    if value { [u64::MAX; 64] } else { [0; 64] }
+}
+
 /// The word at this place of the table of a clause.
 pub fn clause_word(lits: &[TableLit], place: usize) -> u64
     requires place { place < 64 }
@@ -114,4 +121,14 @@ pub fn equal_words(words: &[u64], other: &[u64], count: usize) -> usize
         }
     }
     count
+}
+
+/// The lowest bit at which two words differ.
+pub fn first_unequal_bit(word: u64, other: u64) -> usize
+    requires { word ≢ other }
+    ensures within { result < 64 }
+    ensures differs { has_bit word result ≢ has_bit other result }
+    ensures before { (p : ℕ) → p < result → has_bit word p ≡ has_bit other p }
+{
+    (word ^ other).trailing_zeros() as usize
 }

@@ -1,5 +1,4 @@
 use Rattle.kn_tables.proofs.Places.{mask-is}
-use Rattle.kn_tables.proofs.Tabled.{table-halves}
 use Rattle.kn_tables.proofs.quantify.low_mask.Goals as goal
 
 pub returns : goal.returns
