@@ -63,24 +63,40 @@ with-mod_low i j value h = same_from_has_bits (index_with i j value % 2 ^ 6) (in
     | inr high ↦ has_bit-above (index_with i j value % 2 ^ 6) 6 q (mod_below (index_with i j value) 64 (omega arith)) high
         ∙ sym (has_bit-with_other (i % 2 ^ 6) j value q (λ e. omega (arith, e)) ∙ has_bit-above (i % 2 ^ 6) 6 q (mod_below i 64 (omega arith)) high) ])
 
-shifted_test : (q j : ℕ) → 6 ≤ j → eqb (6 + q) j ≡ eqb q (j - 6)
-shifted_test q j h =
-    elim (cases_eq q (j - 6)) [
-      inl e ↦ eq-eqb (6 + q) j (omega arith) ∙ sym (eq-eqb q (j - 6) e)
-    | inr ne ↦ ne_eqb (6 + q) j (λ e. ne (omega arith)) ∙ sym (ne_eqb q (j - 6) ne) ]
+shifted_test : (s q j : ℕ) → s ≤ j → eqb (s + q) j ≡ eqb q (j - s)
+shifted_test s q j h =
+    elim (cases_eq q (j - s)) [
+      inl e ↦ eq-eqb (s + q) j (omega arith) ∙ sym (eq-eqb q (j - s) e)
+    | inr ne ↦ ne_eqb (s + q) j (λ e. ne (omega arith)) ∙ sym (ne_eqb q (j - s) ne) ]
+
+with-div : (s i j : ℕ) (value : Bool) → s ≤ j → index_with i j value / 2 ^ s ≡ index_with (i / 2 ^ s) (j - s) value
+with-div s i j value h = same_from_has_bits (index_with i j value / 2 ^ s) (index_with (i / 2 ^ s) (j - s) value)
+    (λ q. has_bit-div (index_with i j value) s q ∙ has_bit-with i j value (s + q)
+      ∙ ap (λ b. cond b value (has_bit i (s + q))) (shifted_test s q j h)
+      ∙ ap (λ b. cond (eqb q (j - s)) value b) (sym (has_bit-div i s q)) ∙ sym (has_bit-with (i / 2 ^ s) (j - s) value q))
+
+with-mod : (s i j : ℕ) (value : Bool) → s ≤ j → index_with i j value % 2 ^ s ≡ i % 2 ^ s
+with-mod s i j value h = same_from_has_bits (index_with i j value % 2 ^ s) (i % 2 ^ s)
+    (λ q. elim (cases_lt q s) [
+      inl low ↦ has_bit-mod (index_with i j value) s q low ∙ has_bit-with_other i j value q (λ e. omega (arith, e)) ∙ sym (has_bit-mod i s q low)
+    | inr high ↦ has_bit-above (index_with i j value % 2 ^ s) s q (mod_below (index_with i j value) (2 ^ s) (pow_pos s)) high
+        ∙ sym (has_bit-above (i % 2 ^ s) s q (mod_below i (2 ^ s) (pow_pos s)) high) ])
 
 pub with-div_high : (i j : ℕ) (value : Bool) → 6 ≤ j → index_with i j value / 64 ≡ index_with (i / 64) (j - 6) value
-with-div_high i j value h = same_from_has_bits (index_with i j value / 2 ^ 6) (index_with (i / 2 ^ 6) (j - 6) value)
-    (λ q. has_bit-div (index_with i j value) 6 q ∙ has_bit-with i j value (6 + q)
-      ∙ ap (λ b. cond b value (has_bit i (6 + q))) (shifted_test q j h)
-      ∙ ap (λ b. cond (eqb q (j - 6)) value b) (sym (has_bit-div i 6 q)) ∙ sym (has_bit-with (i / 2 ^ 6) (j - 6) value q))
+with-div_high i j value h = with-div 6 i j value h
 
 pub with-mod_high : (i j : ℕ) (value : Bool) → 6 ≤ j → index_with i j value % 64 ≡ i % 64
-with-mod_high i j value h = same_from_has_bits (index_with i j value % 2 ^ 6) (i % 2 ^ 6)
-    (λ q. elim (cases_lt q 6) [
-      inl low ↦ has_bit-mod (index_with i j value) 6 q low ∙ has_bit-with_other i j value q (λ e. omega (arith, e)) ∙ sym (has_bit-mod i 6 q low)
-    | inr high ↦ has_bit-above (index_with i j value % 2 ^ 6) 6 q (mod_below (index_with i j value) 64 (omega arith)) high
-        ∙ sym (has_bit-above (i % 2 ^ 6) 6 q (mod_below i 64 (omega arith)) high) ])
+with-mod_high i j value h = with-mod 6 i j value h
+
+-- the places of a block go together, where the variable is none within it
+pub with-block : (b i j : ℕ) (value : Bool) → i < 4 → 2 ≤ j → index_with (4 * b + i) j value ≡ index_with (4 * b) j value + i
+with-block b i j value low h =
+    let x = index_with (4 * b + i) j value in
+    let y = index_with (4 * b) j value in
+    let e : (4 * b + i) / 2 ^ 2 ≡ (4 * b) / 2 ^ 2 = omega arith in
+    let quotients : x / 2 ^ 2 ≡ y / 2 ^ 2 =
+        with-div 2 (4 * b + i) j value h ∙ ap (λ k. index_with k (j - 2) value) e ∙ sym (with-div 2 (4 * b) j value h) in
+    omega (arith, quotients, with-mod 2 (4 * b + i) j value h, with-mod 2 (4 * b) j value h)
 
 -- an index with a value stays below a power of two
 pub with-below : (i j n : ℕ) (value : Bool) → i < 2 ^ n → j < n → index_with i j value < 2 ^ n

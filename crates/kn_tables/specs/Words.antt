@@ -1,9 +1,9 @@
 -- How the values of a table stand in words: 64 to a word, that of the least index in the lowest bit.
-use Rattle.std.specs.Prelude.{ℕ, ◌≡◌, ◌<◌, ◌+◌, ◌-◌, ◌*◌, ◌/◌, ◌%◌, ◌^◌, Bool, nat_le, if◌then◌else◌, List, map, slice_index, bit_and, bit_or}
+use Rattle.std.specs.Prelude.{ℕ, ◌≡◌, ◌<◌, ◌≤◌, ◌+◌, ◌-◌, ◌*◌, ◌/◌, ◌%◌, ◌^◌, Bool, true, false, nat_le, if◌then◌else◌, List, map, length, slice_index, bit_and, bit_or}
 use Rattle.std.specs.List.{range_with_len}
 use Rattle.kn_tables.specs.declared.join.Joining.{Joining}
 use Rattle.kn_tables.specs.declared.join.Joining.TheVariants.{And, Or}
-use Rattle.kn_tables.specs.Indices.{has_bit}
+use Rattle.kn_tables.specs.Indices.{has_bit, index_with}
 use Rattle.kn_tables.specs.Tables.{Truth}
 
 -- the value that the words have at an index
@@ -35,3 +35,18 @@ AreJoined how count other before after = (k : ℕ) → k < count → slice_index
 abbrev pub folded : ℕ → ℕ → ℕ → ℕ
 folded mask shift word =
     let both = bit_and (bit_or word (word / 2 ^ shift)) mask in bit_or both (both * 2 ^ shift % 2 ^ 64)
+
+-- "for some value of a variable" of words that it numbers
+abbrev pub either : (ℕ → ℕ) → ℕ → ℕ → ℕ
+either f j k = bit_or (f (index_with k j true)) (f (index_with k j false))
+
+-- four words at once are those of a function of their place among the four
+pub record HasLanes (f : ℕ → ℕ) (lanes : List ℕ) : Type 0 where
+  pub long : length lanes ≡ 4
+  pub each : (i : ℕ) → i < 4 → slice_index lanes i ≡ f i
+
+-- the four words at a place are new, and all others are as before
+pub record IsBlock (at : ℕ) (f : ℕ → ℕ) (before after : List ℕ) : Type 0 where
+  pub each : (i : ℕ) → i < 4 → slice_index after (at + i) ≡ f i
+  pub below : (k : ℕ) → k < at → slice_index after k ≡ slice_index before k
+  pub above : (k : ℕ) → at + 4 ≤ k → slice_index after k ≡ slice_index before k

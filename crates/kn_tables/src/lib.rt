@@ -5,6 +5,7 @@
 #![tactic(auto)]
 
 mod join;
+mod lanes;
 mod laws;
 mod literal;
 mod quantify;

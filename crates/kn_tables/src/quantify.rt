@@ -1,7 +1,10 @@
-ghost use Rattle.std.specs.Prelude.{◌≡◌, ◌≤◌, ◌<◌, ◌+◌, ◌*◌, ◌^◌, ◌||◌, ℕ, true, false, not, length, slice_index, bit_or};
+ghost use Rattle.std.specs.Prelude.{◌≡◌, ◌≤◌, ◌<◌, ◌+◌, ◌*◌, ◌^◌, ◌||◌, ℕ, Bool, true, false, not, length, slice_index};
 ghost use Rattle.kn_tables.specs.Indices.{has_bit, index_with};
 ghost use Rattle.kn_tables.specs.Tables.{some_value_at};
-ghost use Rattle.kn_tables.specs.Words.{folded};
+ghost use Rattle.kn_tables.specs.Words.{folded, either};
+
+use crate::join::Joining;
+use crate::lanes::{LANES, fold_lanes, join_lanes, load, store};
 
 /// The bits of a word at whose indices a variable from 0 to 5 is false.
 const LOW_MASKS: [u64; 6] = [
@@ -31,14 +34,30 @@ fn low_mask(var: u8) -> u64
 }
 
 /// Joins in each of the first `count` words the bits under the mask with those `shift` places above them,
-/// and puts the result at both.
+/// and puts the result at both: in lanes, and one word at a time where fewer are left.
 fn fold_words(words: &mut [u64], count: usize, mask: u64, shift: u32)
     requires words { count ≤ length words.old }
     requires shift { shift < 64 }
     ensures { (k : ℕ) → k < count → slice_index words.new k ≡ folded mask shift (slice_index words.old k) }
 {
-    for place in 0..count {
+    let blocks = count / LANES;
+    fold_blocks(words, blocks, mask, shift);
+    for place in LANES * blocks..count {
         words[place] = fold_word(words[place], mask, shift);
+    }
+}
+
+/// The same in as many blocks of words.
+fn fold_blocks(words: &mut [u64], blocks: usize, mask: u64, shift: u32)
+    requires words { LANES * blocks ≤ length words.old }
+    requires shift { shift < 64 }
+    ensures folded { (k : ℕ) → k < LANES * blocks → slice_index words.new k ≡ folded mask shift (slice_index words.old k) }
+    ensures rest { (k : ℕ) → LANES * blocks ≤ k → slice_index words.new k ≡ slice_index words.old k }
+{
+    for block in 0..blocks {
+        let at = LANES * block;
+        let both = fold_lanes(load(words, at), mask, shift);
+        store(words, at, both);
     }
 }
 
@@ -58,10 +77,42 @@ pub fn join_partners(words: &mut [u64], before: &[u64], n: u8, var: u8)
     requires words { 2 ^ n ≤ length words.old }
     requires before { 2 ^ n ≤ length before.now }
     requires var { var < n }
-    ensures { (k : ℕ) → k < 2 ^ n → slice_index words.new k ≡ bit_or (slice_index before.now (index_with k var true)) (slice_index before.now (index_with k var false)) }
+    ensures { (k : ℕ) → k < 2 ^ n → slice_index words.new k ≡ either (slice_index before.now) var k }
 {
-    for place in 0..1 << n {
+    let count = 1 << n;
+    if var < 2 {
+        partner_words(words, before, count, var);
+    } else {
+        partner_blocks(words, before, count / LANES, var);
+    }
+}
+
+/// The same, one word at a time.
+fn partner_words(words: &mut [u64], before: &[u64], count: usize, var: u8)
+    requires most { count ≤ 64 }
+    requires words { count ≤ length words.old }
+    requires before { (k : ℕ) (value : Bool) → k < count → index_with k var value < length before.now }
+    requires var { var < 6 }
+    ensures { (k : ℕ) → k < count → slice_index words.new k ≡ either (slice_index before.now) var k }
+{
+    for place in 0..count {
         words[place] = before[with_bit(place, var)] | before[without_bit(place, var)];
+    }
+}
+
+/// The same in blocks of words, at a variable that gives the words of a block one value.
+fn partner_blocks(words: &mut [u64], before: &[u64], blocks: usize, var: u8)
+    requires most { LANES * blocks ≤ 64 }
+    requires words { LANES * blocks ≤ length words.old }
+    requires before { (k : ℕ) (value : Bool) → k < LANES * blocks → index_with k var value < length before.now }
+    requires var { (2 ≤ var) × (var < 6) }
+    ensures { (k : ℕ) → k < LANES * blocks → slice_index words.new k ≡ either (slice_index before.now) var k }
+{
+    for block in 0..blocks {
+        let at = LANES * block;
+        let high = load(before, with_bit(at, var));
+        let low = load(before, without_bit(at, var));
+        store(words, at, join_lanes(high, low, Joining::Or));
     }
 }
 

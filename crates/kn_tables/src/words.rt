@@ -5,6 +5,7 @@ ghost use Rattle.kn_tables.specs.Tables.{AreBelow, is_true_at};
 ghost use Rattle.kn_tables.specs.Words.{words_of, HasValues};
 
 use crate::TableLit;
+use crate::lanes::{LANES, are_same, load};
 
 /// The values of the variables 0 to 5 at the 64 indices of a word.
 const PATTERNS: [u64; 6] = [
@@ -115,12 +116,28 @@ pub fn equal_words(words: &[u64], other: &[u64], count: usize) -> usize
     ensures equal { (k : ℕ) → k < result → slice_index words.now k ≡ slice_index other.now k }
     ensures next { result < count → slice_index words.now result ≢ slice_index other.now result }
 {
-    for place in 0..count {
+    for place in LANES * equal_blocks(words, other, count / LANES)..count {
         if words[place] != other[place] {
             return place;
         }
     }
     count
+}
+
+/// How many blocks of words two tables have in common, from the first, of so many.
+fn equal_blocks(words: &[u64], other: &[u64], blocks: usize) -> usize
+    requires words { LANES * blocks ≤ length words.now }
+    requires other { LANES * blocks ≤ length other.now }
+    ensures within { result ≤ blocks }
+    ensures equal { (k : ℕ) → k < LANES * result → slice_index words.now k ≡ slice_index other.now k }
+{
+    for block in 0..blocks {
+        let at = LANES * block;
+        if !are_same(load(words, at), load(other, at)) {
+            return block;
+        }
+    }
+    blocks
 }
 
 /// The lowest bit at which two words differ.
