@@ -1,9 +1,9 @@
 -- One bit of what the operations on numbers give, and of an index with a value.
-use Rattle.std.proofs.Common.{◌≡◌, ℕ, ◌+◌, ◌-◌, ◌*◌, ◌/◌, ◌%◌, ◌^◌, ◌<◌, ◌≤◌, ◌≢◌, ◌⊎◌, inl, inr, min, max, Bool, true, false, not, ◌&&◌, ◌||◌, cond, eqb, bit_and, bit_or, refl, sym, ap, ◌∙◌, subst, arith, zero, suc}
+use Rattle.std.proofs.Common.{◌≡◌, ℕ, ◌+◌, ◌-◌, ◌*◌, ◌/◌, ◌%◌, ◌^◌, ◌<◌, ◌≤◌, ◌≢◌, ◌⊎◌, inl, inr, min, max, Bool, true, false, not, ◌&&◌, ◌||◌, cond, eqb, bit_and, bit_or, refl, sym, ap, ◌∙◌, subst, arith}
 use Rattle.std.specs.Prelude.{◌==◌, if◌then◌else◌}
-use Rattle.std.specs.Int.{bit_at, bit_not, w64}
-use Rattle.std.proofs.lemmas.Bool.{cases_eq, cases_lt, cases_Bool, eq-eqb, eqb-true, eqb-false, ne_eqb, true≢false}
-use Rattle.std.proofs.lemmas.Nat.{shr-shr, pow_pos, pow-add, div-add-mod', mod-pow-add, mod_below}
+use Rattle.std.specs.Int.{bit_at, w64}
+use Rattle.std.proofs.lemmas.Bool.{cases_eq, cases_lt, eq-eqb, ne_eqb, true≢false}
+use Rattle.std.proofs.lemmas.Nat.{shr-shr, pow_pos, pow-add, div-add-mod', mod_below}
 use Rattle.std.proofs.lemmas.Nat.Bits.{bit_at_and, bit_at_or, bit_at_not, bit_at-lt, bit_at-zero, bit_at_ones, bit_at_cat_low, bit_at_cat_high, bit_at_above, same_from_bits}
 use Rattle.kn_tables.specs.Indices.{has_bit, index_with}
 
@@ -13,14 +13,16 @@ low_cases n low = elim (cases_eq n 0) [ inl e ↦ inl e | inr ne ↦ inr (omega 
 and_test : (x y : ℕ) → x < 2 → y < 2 → (min x y == 1) ≡ ((x == 1) && (y == 1))
 and_test x y p q =
     elim (low_cases x p) [
-      inl e ↦ elim (low_cases y q) [ inl f ↦ rw e (rw f refl) | inr f ↦ rw e (rw f refl) ]
-    | inr e ↦ elim (low_cases y q) [ inl f ↦ rw e (rw f refl) | inr f ↦ rw e (rw f refl) ] ]
+      | inl e ↦ elim (low_cases y q) [ inl f ↦ rw e (rw f refl) | inr f ↦ rw e (rw f refl) ]
+      | inr e ↦ elim (low_cases y q) [ inl f ↦ rw e (rw f refl) | inr f ↦ rw e (rw f refl) ]
+    ]
 
 or_test : (x y : ℕ) → x < 2 → y < 2 → (max x y == 1) ≡ ((x == 1) || (y == 1))
 or_test x y p q =
     elim (low_cases x p) [
-      inl e ↦ elim (low_cases y q) [ inl f ↦ rw e (rw f refl) | inr f ↦ rw e (rw f refl) ]
-    | inr e ↦ elim (low_cases y q) [ inl f ↦ rw e (rw f refl) | inr f ↦ rw e (rw f refl) ] ]
+      | inl e ↦ elim (low_cases y q) [ inl f ↦ rw e (rw f refl) | inr f ↦ rw e (rw f refl) ]
+      | inr e ↦ elim (low_cases y q) [ inl f ↦ rw e (rw f refl) | inr f ↦ rw e (rw f refl) ]
+    ]
 
 not_test : (x : ℕ) → x < 2 → (1 - x == 1) ≡ not (x == 1)
 not_test x p = elim (low_cases x p) [ inl e ↦ rw e refl | inr e ↦ rw e refl ]
@@ -28,10 +30,15 @@ not_test x p = elim (low_cases x p) [ inl e ↦ rw e refl | inr e ↦ rw e refl 
 pub same_test : (x y : ℕ) → x < 2 → y < 2 → (x == 1) ≡ (y == 1) → x ≡ y
 same_test x y p q h =
     elim (low_cases x p) [
-      inl e ↦ elim (low_cases y q) [ inl f ↦ e ∙ sym f
-        | inr f ↦ absurd (true≢false (sym (eq-eqb y 1 f) ∙ sym h ∙ ap (λ n. eqb n 1) e)) ]
-    | inr e ↦ elim (low_cases y q) [ inl f ↦ absurd (true≢false (sym (eq-eqb x 1 e) ∙ h ∙ ap (λ n. eqb n 1) f))
-        | inr f ↦ e ∙ sym f ] ]
+      | inl e ↦ elim (low_cases y q) [
+        | inl f ↦ e ∙ sym f
+        | inr f ↦ absurd (true≢false (sym (eq-eqb y 1 f) ∙ sym h ∙ ap (λ n. eqb n 1) e))
+      ]
+      | inr e ↦ elim (low_cases y q) [
+        | inl f ↦ absurd (true≢false (sym (eq-eqb x 1 e) ∙ h ∙ ap (λ n. eqb n 1) f))
+        | inr f ↦ e ∙ sym f
+      ]
+    ]
 
 pub has_bit-and : (a b i : ℕ) → has_bit (bit_and a b) i ≡ (has_bit a i && has_bit b i)
 has_bit-and a b i = ap (λ n. eqb n 1) (bit_at_and a b i) ∙ and_test (bit_at a i) (bit_at b i) (bit_at-lt a i) (bit_at-lt b i)
@@ -118,23 +125,26 @@ above_other i j value k h =
 pub has_bit-with_other : (i j : ℕ) (value : Bool) (k : ℕ) → k ≢ j → has_bit (index_with i j value) k ≡ has_bit i k
 has_bit-with_other i j value k ne =
     elim (cases_lt k j) [
-      inl below ↦ ap (λ m. has_bit m k) (with_is i j value)
-        ∙ has_bit-low (i / 2 ^ (j + 1)) (j + 1) (low_part i j value) k (omega arith) ∙ low_other i j value k below
-    | inr above ↦ above_other i j value k (omega (arith, ne)) ]
+      | inl below ↦ ap (λ m. has_bit m k) (with_is i j value)
+          ∙ has_bit-low (i / 2 ^ (j + 1)) (j + 1) (low_part i j value) k (omega arith) ∙ low_other i j value k below
+      | inr above ↦ above_other i j value k (omega (arith, ne))
+    ]
 
 pub has_bit-with : (i j : ℕ) (value : Bool) (k : ℕ) → has_bit (index_with i j value) k ≡ (if k == j then value else has_bit i k)
 has_bit-with i j value k =
     elim (cases_eq k j) [
-      inl e ↦ subst (λ m. has_bit (index_with i j value) m ≡ (if m == j then value else has_bit i m)) (sym e)
-        (has_bit-with_same i j value ∙ sym (ap (λ b. cond b value (has_bit i j)) (eq-eqb j j refl)))
-    | inr ne ↦ has_bit-with_other i j value k ne ∙ sym (ap (λ b. cond b value (has_bit i k)) (ne_eqb k j ne)) ]
+      | inl e ↦ subst (λ m. has_bit (index_with i j value) m ≡ (if m == j then value else has_bit i m)) (sym e)
+          (has_bit-with_same i j value ∙ sym (ap (λ b. cond b value (has_bit i j)) (eq-eqb j j refl)))
+      | inr ne ↦ has_bit-with_other i j value k ne ∙ sym (ap (λ b. cond b value (has_bit i k)) (ne_eqb k j ne))
+    ]
 
 -- an index with its own value
 pub with_own : (i j : ℕ) → index_with i j (has_bit i j) ≡ i
 with_own i j = same_from_has_bits (index_with i j (has_bit i j)) i
     (λ k. elim (cases_eq k j) [
-      inl e ↦ subst (λ m. has_bit (index_with i j (has_bit i j)) m ≡ has_bit i m) (sym e) (has_bit-with_same i j (has_bit i j))
-    | inr ne ↦ has_bit-with_other i j (has_bit i j) k ne ])
+      | inl e ↦ subst (λ m. has_bit (index_with i j (has_bit i j)) m ≡ has_bit i m) (sym e) (has_bit-with_same i j (has_bit i j))
+      | inr ne ↦ has_bit-with_other i j (has_bit i j) k ne
+    ])
 
 pub with_true : (i j : ℕ) → index_with i j true ≡ index_with i j false + 2 ^ j
 with_true i j = omega arith

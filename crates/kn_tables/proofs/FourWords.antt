@@ -1,12 +1,12 @@
 -- Words that are handled four at once.
-use Rattle.std.proofs.Common.{◌≡◌, ℕ, ◌+◌, ◌*◌, ◌/◌, ◌%◌, ◌^◌, ◌<◌, ◌≤◌, Bool, true, false, not, eqb, cond, bit_and, bit_or, refl, sym, ap, ◌∙◌, subst, arith, List, length, map, replicate, inl, inr, get_or, ◌-◌}
+use Rattle.std.proofs.Common.{◌≡◌, ℕ, ◌+◌, ◌*◌, ◌/◌, ◌%◌, ◌^◌, ◌<◌, Bool, true, false, not, eqb, cond, refl, sym, ap, ◌∙◌, subst, arith, List, length, map, replicate, inl, inr, get_or, ◌-◌}
 use Rattle.std.specs.Prelude.{slice_index}
-use Rattle.std.proofs.lemmas.Bool.{cases_lt, eqb-true, not-false, not-true}
-use Rattle.std.proofs.lemmas.Simd.{length-zip2, get_or-zip2, length-replicate, get_or-replicate, tops_compared, mask_l-mod, bit_mask_l}
+use Rattle.std.proofs.lemmas.Bool.{cases_lt, eqb-true, not-false}
+use Rattle.std.proofs.lemmas.Simd.{length-zip2, get_or-zip2, get_or-replicate, tops_compared, mask_l-mod, bit_mask_l}
 use Rattle.std.specs.Int.{w64}
 use Rattle.std.proofs.lemmas.Nat.Bits.{bit_at-zero}
 use lib.Lanes.{zip2, mask_l, top}
-use Rattle.kn_tables.specs.Words.{HasLanes, folded}
+use Rattle.kn_tables.specs.Words.{HasLanes}
 
 pub lanes-zip : (f : ℕ → ℕ → ℕ) (g h : ℕ → ℕ) (xs ys : List ℕ) → HasLanes g xs → HasLanes h ys → HasLanes (λ i. f (g i) (h i)) (zip2 f xs ys)
 lanes-zip f g h xs ys p q = record {
@@ -43,7 +43,7 @@ lanes-same xs ys p q none i l =
     let mask : mask_l ms ≡ 0 = sym (mask_l-mod ms 64 (omega (arith, long))) ∙ ap (λ m. mask_l m % 2 ^ 64) (sym (tops_compared w64 differ xs ys)) ∙ none in
     let bit : cond (get_or ms i false) 1 0 ≡ 0 = sym (bit_mask_l ms i) ∙ ap (λ m. m / 2 ^ i % 2) mask ∙ zero_bit i in
     let equal : differ (slice_index xs i) (slice_index ys i) ≡ false =
-        sym (get_or-zip2 differ xs ys i 0 0 false (omega (arith, p)) (omega (arith, q))) ∙ unset (get_or ms i false) bit in
+    sym (get_or-zip2 differ xs ys i 0 0 false (omega (arith, p)) (omega (arith, q))) ∙ unset (get_or ms i false) bit in
     eqb-true (slice_index xs i) (slice_index ys i) (not-false (eqb (slice_index xs i) (slice_index ys i)) equal)
 
 -- a loop that replaces block after block
@@ -54,7 +54,8 @@ pub block-step : (f : ℕ → ℕ) (now new : List ℕ) (block : ℕ)
     → (k : ℕ) → k < 4 * (block + 1) → slice_index new k ≡ f k
 block-step f now new block done own below k h =
     elim (cases_lt k (4 * block)) [
-      inl less ↦ below k less ∙ done k less
-    | inr more ↦
-        let e : 4 * block + (k - 4 * block) ≡ k = omega arith in
-        subst (λ m. slice_index new m ≡ f m) e (own (k - 4 * block) (omega arith)) ]
+      | inl less ↦ below k less ∙ done k less
+      | inr more ↦
+          let e : 4 * block + (k - 4 * block) ≡ k = omega arith in
+          subst (λ m. slice_index new m ≡ f m) e (own (k - 4 * block) (omega arith))
+    ]

@@ -15,3 +15,6 @@ mod words;
 pub use laws::an_index_with_a_value;
 pub use literal::TableLit;
 pub use table::Table;
+
+#[cfg(test)]
+mod tests;

@@ -1,4 +1,3 @@
-use Rattle.std.proofs.Common.{arith}
 use Rattle.std.proofs.lemmas.Bool.{eqb-true}
 use Rattle.kn_tables.proofs.FourWords.{lanes-same}
 use Rattle.kn_tables.proofs.lanes.are_same.Goals as goal

@@ -22,11 +22,11 @@ loop-block-preserved c =
     let block = c.loop-block.block in
     let at = 4 * block in
     let high : (i : ℕ) → i < 4 → slice_index c.load-high.result i ≡ slice_index before (index_with (at + i) c.args.var true) =
-        λ i l. c.load-high.ensures.each i l ∙ ap (λ k. slice_index before (k + i)) c.with_bit.ensures ∙ ap (slice_index before) (sym (with-block block i c.args.var true l c.requires.var.0)) in
+    λ i l. c.load-high.ensures.each i l ∙ ap (λ k. slice_index before (k + i)) c.with_bit.ensures ∙ ap (slice_index before) (sym (with-block block i c.args.var true l c.requires.var.0)) in
     let low : (i : ℕ) → i < 4 → slice_index c.load-low.result i ≡ slice_index before (index_with (at + i) c.args.var false) =
-        λ i l. c.load-low.ensures.each i l ∙ ap (λ k. slice_index before (k + i)) c.without_bit.ensures ∙ ap (slice_index before) (sym (with-block block i c.args.var false l c.requires.var.0)) in
+    λ i l. c.load-low.ensures.each i l ∙ ap (λ k. slice_index before (k + i)) c.without_bit.ensures ∙ ap (slice_index before) (sym (with-block block i c.args.var false l c.requires.var.0)) in
     block-step (either (slice_index before) c.args.var) c.loop-block.words c.store.new.words block c.loop-block.invariant
-      (λ i l. c.store.ensures.each i l ∙ c.join_lanes.ensures.each i l
-        ∙ ap (λ a. bit_or a (slice_index c.load-low.result i)) (high i l)
-        ∙ ap (bit_or (slice_index before (index_with (at + i) c.args.var true))) (low i l))
-      c.store.ensures.below
+    (λ i l. c.store.ensures.each i l ∙ c.join_lanes.ensures.each i l
+    ∙ ap (λ a. bit_or a (slice_index c.load-low.result i)) (high i l)
+    ∙ ap (bit_or (slice_index before (index_with (at + i) c.args.var true))) (low i l))
+    c.store.ensures.below

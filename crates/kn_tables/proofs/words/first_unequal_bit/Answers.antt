@@ -1,9 +1,8 @@
-use Rattle.std.proofs.Common.{◌≡◌, ◌≢◌, ◌<◌, ◌+◌, ◌%◌, ◌^◌, ℕ, inl, inr, eqb, bit_xor, ap, ◌∙◌, sym, arith}
+use Rattle.std.proofs.Common.{◌≡◌, ◌≢◌, ◌<◌, ℕ, inl, inr, eqb, bit_xor, ap, ◌∙◌, sym, arith}
 use Rattle.std.specs.Int.{bit_at, w64}
 use Rattle.std.proofs.lemmas.Bool.{cases_eq}
 use Rattle.std.proofs.lemmas.Nat.{xor_lt}
 use Rattle.std.proofs.lemmas.Nat.Bits.{bit_at_xor, bit_at-zero, bit_at-lt, bit_at-trailing_zeros, same_from_bits}
-use Rattle.kn_tables.specs.Indices.{has_bit}
 use Rattle.kn_tables.proofs.Bits.{same_test}
 use Rattle.kn_tables.proofs.words.first_unequal_bit.Goals as goal
 
@@ -14,8 +13,9 @@ alike a b i e = omega (arith, bit_at-lt a i, bit_at-lt b i, sym (bit_at_xor a b 
 above : (a b : ℕ) → a ≢ b → 0 < bit_xor a b
 above a b ne =
     elim (cases_eq (bit_xor a b) 0) [
-      inl e ↦ absurd (ne (same_from_bits a b (λ i. alike a b i (ap (λ n. bit_at n i) e ∙ bit_at-zero i))))
-    | inr more ↦ omega (arith, more) ]
+      | inl e ↦ absurd (ne (same_from_bits a b (λ i. alike a b i (ap (λ n. bit_at n i) e ∙ bit_at-zero i))))
+      | inr more ↦ omega (arith, more)
+    ]
 
 pub returns-clause-within : goal.returns-clause-within
 returns-clause-within c =

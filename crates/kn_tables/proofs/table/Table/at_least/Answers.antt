@@ -1,5 +1,4 @@
-use Rattle.std.proofs.Common.{◌≡◌, ◌<◌, ℕ, length, length-set, arith, ◌∙◌}
-use Rattle.std.specs.Prelude.{slice_index}
+use Rattle.std.proofs.Common.{◌<◌, length, length-set, arith, ◌∙◌}
 use Rattle.std.specs.Prelude.{nat_le, count_by}
 use Rattle.kn_tables.specs.Tables.{is_true_at}
 use Rattle.kn_tables.proofs.Tabled.{table-by_words, filled-more}
@@ -16,4 +15,4 @@ loop-place-preserved c =
 pub returns : goal.returns
 returns c =
     table-by_words c.args.n _ c.loop-place.words c.requires.few
-      (λ k h. c.loop-place.invariant.values k (omega (arith, h, c.word_count-place-end.ensures.count, c.loop-place-test.false)))
+    (λ k h. c.loop-place.invariant.values k (omega (arith, h, c.word_count-place-end.ensures.count, c.loop-place-test.false)))

@@ -1,5 +1,4 @@
 use Rattle.std.proofs.Common.{◌≡◌, ◌<◌, ◌≤◌, ◌+◌, ◌*◌, ◌^◌, ℕ, ap, subst, sym, ◌∙◌, refl, arith}
-use Rattle.std.proofs.Math.Nat.{pow-le-pow_right}
 use Rattle.std.proofs.lemmas.Bool.{true≢false}
 use Rattle.std.proofs.lemmas.Nat.{one_shl}
 use Rattle.std.specs.Prelude.{slice_index}
@@ -28,8 +27,8 @@ returns-then-index-self-clause-some c =
     let e : n ≡ m = ap (λ t. t.vars) c.self.view_is ∙ c.requires ∙ sym (ap (λ t. t.vars) c.other.view_is) in
     let few : 64 * place + bit < 2 ^ n = omega (arith, c.if-index-self.true, one_shl n 16 (omega (arith, c.self.invariant))) in
     subst (λ t. IsFirstDifference t c.args.other.now (64 * place + bit)) c.self.view_is
-      (subst (λ u. IsFirstDifference (table_in n a) u (64 * place + bit)) c.other.view_is
-        (first-is n m a b place bit e c.first_unequal_bit-bit.ensures.within c.equal_words-place.ensures.equal c.first_unequal_bit-bit.ensures.differs c.first_unequal_bit-bit.ensures.before few))
+    (subst (λ u. IsFirstDifference (table_in n a) u (64 * place + bit)) c.other.view_is
+    (first-is n m a b place bit e c.first_unequal_bit-bit.ensures.within c.equal_words-place.ensures.equal c.first_unequal_bit-bit.ensures.differs c.first_unequal_bit-bit.ensures.before few))
 
 pub returns-then-index-self-clause-none : goal.returns-then-index-self-clause-none
 returns-then-index-self-clause-none c =
