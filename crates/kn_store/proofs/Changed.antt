@@ -1,5 +1,5 @@
 -- The lists of the variables of some literals are changed: what each list is then.
-use Rattle.std.proofs.Common.{◌≡◌, ◌≢◌, ℕ, ◌+◌, ◌-◌, ◌<◌, ◌≤◌, ◌==◌, Bool, true, false, not, ◌||◌, cond, List, [], ◌∷◌, ◌++◌, length, set, take, filter, get_or, suc, Option, Some, None, IfSome, Result, Ok, Err, OnErr, refl, sym, ap, ap₂, subst, ◌∙◌, arith}
+use Rattle.std.proofs.Common.{◌≡◌, ℕ, ◌+◌, ◌-◌, ◌<◌, ◌≤◌, ◌==◌, Bool, true, false, not, ◌||◌, cond, List, [], ◌∷◌, ◌++◌, length, set, take, get_or, suc, Option, Some, None, IfSome, Result, Ok, Err, OnErr, refl, sym, ap, subst, ◌∙◌, arith}
 use Rattle.std.specs.Prelude.{zero, min, option_to_list}
 use Rattle.std.specs.List.{AllByRecursion}
 use Rattle.std.proofs.lemmas.Bool.{cond-true, cond-false, or_left, or_right, eqb-true, eqb-false, eq-eqb, ne_eqb}
@@ -9,7 +9,7 @@ use Rattle.kn_logic.specs.Literals.{Literal, names, IsKnown, AreKnown}
 use Rattle.kn_logic.specs.Constraints.{Bounded, IsWithin, named}
 use Rattle.kn_logic.specs.Groups.{is_among}
 use Rattle.kn_store.specs.Kept.{with_id, without_id, changed}
-use Rattle.kn_store.proofs.Places.{not-there, all-there}
+use Rattle.kn_store.proofs.Places.{not-there}
 
 pub length-changed : (change : List ℕ → List ℕ) (lists : List (List ℕ)) (lits : List Literal) → length (changed change lists lits) ≡ length lists
 length-changed change lists [] = refl

@@ -1,10 +1,10 @@
 -- Slots, read by id.
-use Rattle.std.proofs.Common.{◌≡◌, ℕ, suc, ◌+◌, ◌-◌, ◌≤◌, ◌<◌, ◌==◌, Bool, true, false, not, cond, List, [], ◌∷◌, ◌++◌, length, map, filter, Option, Some, None, refl, sym, ap, subst, ◌∙◌, arith, true≢false}
+use Rattle.std.proofs.Common.{◌≡◌, ℕ, suc, ◌+◌, ◌-◌, ◌≤◌, ◌<◌, ◌==◌, not, List, [], ◌∷◌, length, filter, Option, Some, None, refl, sym, ap, ◌∙◌, arith}
 use Rattle.std.specs.Prelude.{zero, slice_index_or, slice_set, IfSome}
 use Rattle.std.proofs.lemmas.List.{get_or_past}
 use Rattle.std.proofs.lemmas.Bool.{cond-true, cond-false, eq-eqb, ne_eqb}
 use Rattle.kn_logic.specs.Constraints.{Bounded}
-use Rattle.kn_store.specs.Stores.{Numbered, constraint_at}
+use Rattle.kn_store.specs.Stores.{constraint_at}
 use Rattle.kn_store.specs.Kept.{pairs_of}
 
 pub low-none : (last : ℕ) (slots : List (Option Bounded)) (id : ℕ) → id ≤ last → constraint_at (pairs_of last slots) id ≡ None

@@ -1,12 +1,10 @@
 -- What a store keeps, when a constraint comes, when one is wanting memory, and when one leaves.
-use Rattle.std.proofs.Common.{◌≡◌, Vec, ℕ, suc, ◌+◌, ◌-◌, ◌<◌, ◌≤◌, ◌==◌, Bool, true, false, not, cond, List, [], ◌∷◌, ◌++◌, length, map, set, take, filter, get_or, Option, Some, None, IfSome, refl, sym, ap, ap₂, subst, ◌∙◌, arith, true≢false}
-use Rattle.std.specs.Prelude.{zero}
+use Rattle.std.proofs.Common.{◌≡◌, Vec, ℕ, suc, ◌+◌, ◌-◌, ◌<◌, ◌≤◌, ◌==◌, Bool, true, false, not, cond, List, [], ◌∷◌, ◌++◌, length, map, take, filter, get_or, Option, Some, None, IfSome, refl, sym, ap, ap₂, subst, ◌∙◌, arith, true≢false}
 use Rattle.std.specs.List.{AllByRecursion}
-use Rattle.std.specs.List.Sorted.{IsStrictlyIncreasing}
-use Rattle.std.proofs.lemmas.Bool.{cond-true, cond-false, eqb-true, eq-eqb, ne_eqb, cases_Bool}
+use Rattle.std.proofs.lemmas.Bool.{cond-true, cond-false, ne_eqb}
 use Rattle.std.proofs.lemmas.List.{length-append, with_items_is}
 use Rattle.std.specs.Vec.{with_items}
-use Rattle.kn_logic.specs.Literals.{Literal, names, AreKnown}
+use Rattle.kn_logic.specs.Literals.{names, AreKnown}
 use Rattle.kn_logic.specs.Constraints.{Bounded, Fits, IsWithin, named}
 use Rattle.kn_logic.specs.Groups.{is_among}
 use Rattle.kn_store.specs.Stores.{Numbered, Stored, constraints_of, ids_of, constraint_at, naming, IsStored}

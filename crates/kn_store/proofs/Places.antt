@@ -1,5 +1,5 @@
 -- An id that leaves a list of ids that rise.
-use Rattle.std.proofs.Common.{◌≡◌, ℕ, suc, ◌+◌, ◌-◌, ◌<◌, ◌≤◌, ◌==◌, ◌||◌, Bool, true, false, not, cond, List, [], ◌∷◌, ◌++◌, length, take, drop, filter, get_or, Option, Some, None, Result, Ok, Err, slice_get, nat_eq, true≢false, refl, sym, ap, ap₂, subst, ◌∙◌, inl, inr, arith, append_assoc, length-drop}
+use Rattle.std.proofs.Common.{◌≡◌, ℕ, suc, ◌+◌, ◌-◌, ◌<◌, ◌≤◌, ◌==◌, ◌||◌, true, false, not, List, [], ◌∷◌, ◌++◌, length, take, drop, get_or, Option, Some, None, Result, Ok, Err, slice_get, nat_eq, true≢false, refl, sym, ap, ap₂, subst, ◌∙◌, inl, inr, arith, append_assoc, length-drop}
 use Rattle.std.specs.Prelude.{zero, MatchResult}
 use Rattle.std.specs.List.{AllByRecursion, copy_within, remove}
 use Rattle.std.specs.List.Sorted.{IsStrictlyIncreasing, IsBinarySearchResult}

@@ -9,3 +9,6 @@ mod slots;
 mod store;
 
 pub use store::Store;
+
+#[cfg(test)]
+mod tests;

@@ -1,6 +1,5 @@
-use Rattle.std.proofs.Common.{◌≡◌, ◌∙◌, ◌+◌, ◌++◌, ℕ, length, take, ap, sym, MatchResult, OnErr}
-use Rattle.std.specs.Prelude.{option_to_list, min, IfErr}
-use Rattle.kn_logic.specs.Constraints.{named}
+use Rattle.std.proofs.Common.{◌∙◌, ◌+◌, ◌++◌, length, take, ap}
+use Rattle.std.specs.Prelude.{option_to_list, min}
 use Rattle.kn_store.specs.Kept.{with_id, changed}
 use Rattle.kn_store.proofs.Changed.{on-err, err-weaker, front-first, front-both, changed-append}
 use Rattle.kn_store.proofs.lists.enter.Goals as goal

@@ -1,4 +1,4 @@
-use Rattle.std.proofs.Common.{◌≡◌, ◌-◌, ◌∙◌, sym, arith, None}
+use Rattle.std.proofs.Common.{◌-◌, ◌∙◌, sym, arith, None}
 use Rattle.std.proofs.lemmas.List.{get_or_default}
 use Rattle.kn_store.proofs.Emptied.{at-slot, low-none, high-none}
 use Rattle.kn_store.proofs.slots.constraint.Goals.{then-id-eq0-via-then-id-eq0, then-id-eq0-via-else-id-eq0+then-slots-id}

@@ -1,5 +1,5 @@
 use Rattle.std.proofs.Common.{◌≡◌, ◌-◌, ◌∙◌, sym, ap, subst, arith, None, length, ◌+◌}
-use Rattle.std.specs.Prelude.{IfSome, slice_set, slice_index_or}
+use Rattle.std.specs.Prelude.{IfSome, slice_set}
 use Rattle.std.proofs.lemmas.List.{get_or_default}
 use Rattle.kn_store.specs.Kept.{pairs_of}
 use Rattle.kn_store.proofs.Emptied.{at-slot, low-none, high-none, set-emptied, fewer}

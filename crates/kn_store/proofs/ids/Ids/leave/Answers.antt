@@ -1,4 +1,4 @@
-use Rattle.std.proofs.Common.{◌≡◌, ◌+◌, ◌∙◌, sym, ap, arith}
+use Rattle.std.proofs.Common.{◌+◌, ◌∙◌, sym, ap, arith}
 use Rattle.kn_store.specs.Kept.{without_id}
 use Rattle.kn_store.proofs.Places.{absent, IsLeft, left-front, left-back}
 use Rattle.kn_store.proofs.ids.Ids.leave.Goals as goal

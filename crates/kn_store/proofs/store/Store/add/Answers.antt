@@ -1,9 +1,8 @@
-use Rattle.std.proofs.Common.{◌≡◌, ◌∙◌, ◌+◌, ◌<◌, ◌≤◌, ◌++◌, ◌∷◌, [], List, ℕ, Some, length, take, ap, sym, subst, arith, get_or}
+use Rattle.std.proofs.Common.{◌∙◌, ◌+◌, ◌≤◌, ◌++◌, ◌∷◌, [], Some, length, take, ap, sym, subst, arith, get_or}
 use Rattle.std.specs.List.{AllByRecursion}
-use Rattle.std.proofs.lemmas.List.{length-append}
 use Rattle.std.specs.Vec.{with_items}
 use Rattle.kn_logic.specs.Constraints.{named, Fits}
-use Rattle.kn_store.specs.Kept.{IsKept, pairs_of, with_id, without_id, changed}
+use Rattle.kn_store.specs.Kept.{with_id, without_id}
 use Rattle.kn_store.proofs.Changed.{length-changed}
 use Rattle.kn_store.proofs.Keeps.{low-lists, added, not-added, pushed, with-all, live-low}
 use Rattle.kn_store.proofs.store.Store.add.Goals as goal

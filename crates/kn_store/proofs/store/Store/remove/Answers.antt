@@ -1,5 +1,4 @@
-use Rattle.std.proofs.Common.{◌≡◌, ◌∙◌, ap, sym, subst, length, arith, Some, ◌+◌}
-use Rattle.std.proofs.lemmas.List.{with_items_is}
+use Rattle.std.proofs.Common.{◌≡◌, ◌∙◌, ap, sym, subst, length, Some, ◌+◌}
 use Rattle.kn_logic.specs.Constraints.{IsWithin, named}
 use Rattle.kn_store.specs.Kept.{pairs_of, without_id}
 use Rattle.kn_store.specs.Stores.{constraint_at}
