@@ -59,7 +59,7 @@ IsBorder taken set border = IsStrictlyIncreasing (map (λ l. l.variable) border)
 
 -- The guess of a seed: the least set, all constraints that name one of its variables, and their border.
 pub record IsSeedGuess (s : Stored) (seed : ℕ) (g : Gathered) (ids : List ℕ) : Type 0 where
-  pub seed : is_seed (constraints_of s.live) seed ≡ true
+  pub starts : is_seed (constraints_of s.live) seed ≡ true
   pub ascends : IsStrictlyIncreasing g.aux
   pub least : IsLeastFrom (constraints_of s.live) seed g.aux
   pub few : length g.aux ≤ 256

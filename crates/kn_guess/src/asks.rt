@@ -3,7 +3,7 @@ ghost use Rattle.std.specs.Prelude.{◌≡◌, ◌≤◌, not, ◌&&◌, IfOk};
 ghost use Rattle.kn_logic.specs.Literals.{has};
 ghost use Rattle.kn_logic.specs.Constraints.{is_clause, named};
 ghost use Rattle.kn_logic.specs.Groups.{is_binary};
-ghost use Rattle.kn_store.specs.Stores.{constraints_of};
+ghost use Rattle.kn_store.specs.Stores.{IsStored, constraints_of};
 ghost use Rattle.kn_guess.specs.Guesses.{in_klause, in_binary, stands, is_seed};
 ghost use Rattle.kn_guess.specs.Seen.{IsSeen, any_passes};
 
@@ -14,13 +14,20 @@ use std::alloc::Global;
 pub(crate) fn is_seed(store: &Store, var: u64) -> bool
     requires first { 1 ≤ var }
     requires last { var ≤ store.now.vars }
+    requires stored { IsStored store.now }
     ensures { result ≡ is_seed (constraints_of store.now.live) var }
 {
     let ids = store.with_variable(var);
-    !any_klause(store, ids)
-        && any_binary(store, ids)
-        && any_has(store, ids, Lit::new(var, true))
-        && any_has(store, ids, Lit::new(var, false))
+    if any_klause(store, ids) {
+        return false;
+    }
+    if !any_binary(store, ids) {
+        return false;
+    }
+    if !any_has(store, ids, Lit::new(var, true)) {
+        return false;
+    }
+    any_has(store, ids, Lit::new(var, false))
 }
 
 // For each variable, that of variable 1 first, whether it stands in no klause.

@@ -1,5 +1,5 @@
 // A set is gathered from the literals of constraints; it stops at one more than its limit.
-ghost use Rattle.std.specs.Prelude.{◌≡◌, ◌≤◌, ◌<◌, [], length, IfOk, IfSome, IfNone, OnOk};
+ghost use Rattle.std.specs.Prelude.{◌≡◌, ◌≤◌, ◌<◌, [], length, false, IfOk, IfSome, IfNone, OnOk};
 ghost use Rattle.kn_logic.specs.Constraints.{Fits};
 ghost use Rattle.kn_store.specs.Stores.{IsStored, constraints_of};
 ghost use Rattle.kn_guess.specs.Guesses.{in_klause, IsLeastFrom};

@@ -4,11 +4,15 @@
 #![tactic(auto)]
 
 mod asks;
+mod border;
 mod error;
 mod growing;
 mod guess;
 mod pick;
+mod seeds;
+mod taking;
 mod var_set;
 
 pub use error::NoGuess;
 pub use guess::Guess;
+pub use seeds::aux_guess;

@@ -13,6 +13,7 @@ pub(crate) trait Pick {
 }
 
 // Variables later than the seed that stand in no klause.
+#[derive(Drop)]
 pub(crate) struct Later<'a> {
     pub(crate) seed: u64,
     pub(crate) free: &'a [bool],
@@ -36,6 +37,7 @@ impl Pick for Later<'_> {
 }
 
 // Variables outside a set, in one polarity.
+#[derive(Drop)]
 pub(crate) struct Outside<'a> {
     pub(crate) set: &'a VarSet,
     pub(crate) positive: bool,

@@ -43,6 +43,13 @@ impl VarSet {
         self.set.contains(&var)
     }
 
+    // In the order in which they came.
+    pub(crate) fn vars(&self) -> &[u64]
+        ensures { result.now ≡ self.now }
+    {
+        self.set.as_slice()
+    }
+
     pub(crate) fn len(&self) -> usize
         ensures { result ≡ length self.now }
     {
