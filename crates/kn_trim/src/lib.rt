@@ -23,3 +23,6 @@ pub use laws::{one_trimmed, trimmed_is_proof, used_hints_suffice};
 pub use text::TrimText;
 pub use trimming::{Trimmed, trim};
 
+
+#[cfg(test)]
+mod tests;
