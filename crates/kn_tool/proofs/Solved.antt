@@ -1,28 +1,29 @@
 -- What was logged of a formula is a proof text as far as it goes, whatever the search answers.
-use Rattle.std.proofs.Common.{◌≡◌, ◌≤◌, ◌<◌, ◌+◌, ◌^◌, ◌++◌, ◌∷◌, Bool, true, List, ℕ, [], length, Option, refl, sym, ap, ◌∙◌, subst, inl, inr, append_assoc, append-nil, arith}
+use Rattle.std.proofs.Common.{◌≡◌, ◌≤◌, ◌<◌, ◌+◌, ◌^◌, ◌++◌, ◌∷◌, Bool, true, List, ℕ, [], length, Option, Some, None, refl, sym, ap, ◌∙◌, subst, append_assoc, append-nil, arith}
 use Rattle.kn_bytes.specs.Outside.{Rose, Got, GotPrefix}
-use Rattle.kn_bytes.proofs.Joined.{Got-append, Got-nil, GotPrefix-from_Got, GotPrefix-append}
+use Rattle.kn_bytes.proofs.Public.{Got-append, Got-nil, GotPrefix-from_Got, GotPrefix-append}
 use Rattle.kn_logic.specs.Formulas.{Problem, IsFormula, Satisfies}
 use Rattle.kn_lines.specs.declared.line.Line.{Line}
 use Rattle.kn_rules.specs.States.{ProofState, start}
 use Rattle.kn_rules.specs.Proofs.{IsProof}
-use Rattle.kn_rules.proofs.Sound.{proof-refutes}
+use Rattle.kn_rules.specs.Stepping.{StepsBy, learned_in}
+use Rattle.kn_rules.proofs.Public.{proof-refutes}
 use Rattle.kn_log.specs.Logs.{Logged, header_of, line_bytes, fresh}
-use Rattle.kn_log.specs.Written.{StepsBy, AreSpelled, lines_bytes, learned_in, learned_count}
-use Rattle.kn_log.proofs.Text.{written_steps, written_proof, written_learned}
-use Rattle.kn_log.proofs.Added.{lines_bytes-append}
-use Rattle.kn_search.specs.Outcomes.{Learns, Breaks, Tells, Ends, EndsNot}
+use Rattle.kn_log.specs.Written.{AreSpelled, lines_bytes, learned_count}
+use Rattle.kn_log.proofs.Public.{written_steps, written_proof, written_learned, Breaks-front}
+use Rattle.kn_search.specs.Outcomes.{Tells, Ends, EndsNot}
 use Rattle.kn_search.specs.declared.outcome.Outcome.{Outcome}
 use Rattle.kn_search.specs.declared.outcome.Outcome.TheVariants as outcome
 use Rattle.kn_search.specs.declared.outcome.SearchError.{SearchError}
 use Rattle.kn_search.specs.declared.outcome.SearchError.TheVariants as failure
 use Rattle.kn_tool.specs.declared.answer.Answer.{Answer}
-use Rattle.kn_tool.specs.declared.answer.Answer.TheVariants.{Model, Refuted, Unknown, Usage, NoMemory}
+use Rattle.kn_tool.specs.declared.answer.Answer.TheVariants.{Model, Refuted, Unknown, NoMemory}
 use Rattle.kn_tool.specs.declared.reply.Reply.{Reply}
 use Rattle.kn_tool.specs.declared.reply.Reply.TheVariants as reply
 use Rattle.kn_tool.specs.Answers.{answer_text}
 use Rattle.kn_tool.specs.Changes.{Change, Sink}
-use Rattle.kn_tool.specs.Solves.{IsStepping, Proves, GotSteps, SolvedRow, OutcomeSays, Finds, IsAnswerOf, IsReplyOf, IsSolvedReply, satisfiable_text}
+use Rattle.kn_tool.specs.Solves.{IsStepping, Writes, GotSteps, SolvedRow, model, refuted, unknown, no_memory, satisfiable_text}
+use Rattle.kn_tool.specs.Replies.{IsReply, OutcomeSays, Finds, IsAnswerOf, IsReplyOf}
 
 -- the formula is one whose header can be written
 pub record IsListed (f : Problem) : Type 0 where
@@ -60,69 +61,65 @@ pub record IsBehind (f : Problem) (p : Change Sink) (old : Logged) (mid : Option
   pub begun : old.state ≡ start f
   pub header : Got p.old.written mid (line_bytes (header_of f))
 
-pub memory_ends : (f : Problem) (p : Change Sink) (old new : Logged) (mid : Option (List ℕ)) → IsBehind f p old mid → EndsNot old new mid p.new.written failure.Memory → GotSteps f p
-memory_ends f p old new mid h (learned, learns, whole) =
-    let got : Got p.old.written p.new.written (all_bytes f learns.lines) =
-    Got-append p.old.written mid p.new.written (line_bytes (header_of f)) (lines_bytes learns.lines) h.header learns.got in (
-      all_bytes f learns.lines,
-      stepping f learns.lines old.state new.state h.listed h.begun learns.steps learns.spelled,
-      (all_bytes f learns.lines, [], sym (append-nil (all_bytes f learns.lines)), got),
+pub memory_ends : (budget : ℕ) (f : Problem) (p : Change Sink) (old new : Logged) (mid : Option (List ℕ)) → IsBehind f p old mid → EndsNot budget old new mid p.new.written failure.Memory → GotSteps f p
+memory_ends budget f p old new mid h (lines, within, adds) =
+    let got : Got p.old.written p.new.written (all_bytes f lines) =
+    Got-append p.old.written mid p.new.written (line_bytes (header_of f)) (lines_bytes lines) h.header adds.got in (
+      all_bytes f lines,
+      stepping f lines old.state new.state h.listed h.begun adds.steps adds.spelled,
+      (all_bytes f lines, [], sym (append-nil (all_bytes f lines)), got),
     )
 
-pub fault_ends : (f : Problem) (p : Change Sink) (old new : Logged) (mid : Option (List ℕ)) → IsBehind f p old mid → EndsNot old new mid p.new.written failure.WriteFault → GotSteps f p
-fault_ends f p old new mid h (breaks, failed) =
-    let lines = breaks.lines ++ breaks.last ∷ [] in
-    let front = Got-append p.old.written mid breaks.got.0 (line_bytes (header_of f)) (lines_bytes breaks.lines) h.header breaks.got.1 in
-    let whole = GotPrefix-append p.old.written breaks.got.0 p.new.written (line_bytes (header_of f) ++ lines_bytes breaks.lines) (line_bytes breaks.last) front breaks.got.2 in
-    let is : (line_bytes (header_of f) ++ lines_bytes breaks.lines) ++ line_bytes breaks.last ≡ all_bytes f lines =
-    append_assoc (line_bytes (header_of f)) (lines_bytes breaks.lines) (line_bytes breaks.last)
-    ∙ ap (λ bytes. line_bytes (header_of f) ++ bytes) (ap (λ bytes. lines_bytes breaks.lines ++ bytes) (sym (append-nil (line_bytes breaks.last))) ∙ sym (lines_bytes-append breaks.lines (breaks.last ∷ []))) in (
-      all_bytes f lines,
-      stepping f lines old.state new.state h.listed h.begun breaks.steps breaks.spelled,
-      subst (λ bytes. GotPrefix p.old.written p.new.written bytes) is whole,
+pub fault_ends : (budget : ℕ) (f : Problem) (p : Change Sink) (old new : Logged) (mid : Option (List ℕ)) → IsBehind f p old mid → EndsNot budget old new mid p.new.written failure.WriteFault → GotSteps f p
+fault_ends budget f p old new mid h (lines, last, within, breaks) =
+    let all = lines ++ last ∷ [] in (
+      all_bytes f all,
+      stepping f all old.state new.state h.listed h.begun breaks.steps breaks.spelled,
+      GotPrefix-append p.old.written mid p.new.written (line_bytes (header_of f)) (lines_bytes all) h.header (Breaks-front lines last old new mid p.new.written breaks),
     )
 
 -- what an outcome says of the bytes
-says : (budget : ℕ) (f : Problem) (old new : Logged) (mid w : Option (List ℕ)) (o : Outcome) → IsListed f → old.state ≡ start f → (e : Ends f budget old new mid w o) → Tells f budget e.learned new.state o → OutcomeSays budget f (all_bytes f e.learns.lines) o
+says : (budget : ℕ) (f : Problem) (old new : Logged) (mid w : Option (List ℕ)) (o : Outcome) → IsListed f → old.state ≡ start f → (e : Ends f budget old new mid w o) → Tells f budget (learned_in e.lines) new.state o → OutcomeSays budget f (all_bytes f e.lines) o
 says budget f old new mid w (outcome.Model values) h is e told = told
 says budget f old new mid w outcome.Refuted h is e told =
-    written_proof f e.learns.lines new.state (vars_fit f.vars h.vars) h.count (subst (λ (o : ProofState). StepsBy o e.learns.lines new.state) is e.learns.steps) e.learns.spelled told
+    written_proof f e.lines new.state (vars_fit f.vars h.vars) h.count (subst (λ (o : ProofState). StepsBy o e.lines new.state) is e.adds.steps) e.adds.spelled told
 says budget f old new mid w (outcome.Spent learned) h is e told =
-    (told.0, written_learned f e.learns.lines (vars_fit f.vars h.vars) h.count e.learns.spelled ∙ e.learns.count ∙ told.1 ∙ sym told.0)
+    (told.0, written_learned f e.lines (vars_fit f.vars h.vars) h.count e.adds.spelled ∙ told.1 ∙ sym told.0)
 
 pub outcome_found : (budget : ℕ) (f : Problem) (p : Change Sink) (old new : Logged) (mid : Option (List ℕ)) (o : Outcome) → IsBehind f p old mid → Ends f budget old new mid p.new.written o → Finds budget f p o
 outcome_found budget f p old new mid o h e =
-    let got : Got p.old.written p.new.written (all_bytes f e.learns.lines) =
-    Got-append p.old.written mid p.new.written (line_bytes (header_of f)) (lines_bytes e.learns.lines) h.header e.learns.got in
-    let count : learned_count (all_bytes f e.learns.lines) ≡ e.learned =
-    written_learned f e.learns.lines (vars_fit f.vars h.listed.vars) h.listed.count e.learns.spelled ∙ e.learns.count in (
-      all_bytes f e.learns.lines,
+    let got : Got p.old.written p.new.written (all_bytes f e.lines) =
+    Got-append p.old.written mid p.new.written (line_bytes (header_of f)) (lines_bytes e.lines) h.header e.adds.got in
+    let count : learned_count (all_bytes f e.lines) ≡ learned_in e.lines =
+    written_learned f e.lines (vars_fit f.vars h.listed.vars) h.listed.count e.adds.spelled in (
+      all_bytes f e.lines,
       record {
-        steps = stepping f e.learns.lines old.state new.state h.listed h.begun e.learns.steps e.learns.spelled;
+        steps = stepping f e.lines old.state new.state h.listed h.begun e.adds.steps e.adds.spelled;
         got = got;
         within = subst (λ n. n ≤ budget) (sym count) e.within;
       },
       says budget f old new mid p.new.written o h.listed h.begun e e.tells,
     )
 
+-- bytes that step and were written whole are a prefix of bytes that step
+writes_prefix : (budget : ℕ) (f : Problem) (p : Change Sink) (bytes : List ℕ) → Writes budget f p bytes → GotSteps f p
+writes_prefix budget f p bytes h = (bytes, h.steps, (bytes, [], sym (append-nil bytes), h.got))
+
 -- the answer of an outcome
-row_of_outcome : (budget : ℕ) (f : Problem) (p : Change Sink) (bytes text : List ℕ) (o : Outcome) (answer : Answer) → IsFormula f → Proves budget f p bytes → OutcomeSays budget f bytes o → IsAnswerOf o answer text → SolvedRow budget f p bytes answer text
-row_of_outcome budget f p bytes text (outcome.Model values) answer fit proves said (is, told) =
-    subst (λ a. SolvedRow budget f p bytes a text) (sym is) (proves, (values, said, told))
-row_of_outcome budget f p bytes text outcome.Refuted answer fit proves said (is, told) =
-    subst (λ a. SolvedRow budget f p bytes a text) (sym is) (proves, said, proof-refutes f bytes fit said, told)
-row_of_outcome budget f p bytes text (outcome.Spent learned) answer fit proves said (is, told) =
-    subst (λ a. SolvedRow budget f p bytes a text) (sym is) (proves, said.0, said.1, told)
+row_of_outcome : (budget : ℕ) (f : Problem) (p : Change Sink) (bytes text : List ℕ) (o : Outcome) (answer : Answer) → IsFormula f → Writes budget f p bytes → OutcomeSays budget f bytes o → IsAnswerOf o answer text → SolvedRow budget p f answer (Some text)
+row_of_outcome budget f p bytes text (outcome.Model values) answer fit writes said (is, told) =
+    subst (λ a. SolvedRow budget p f a (Some text)) (sym is) (subst (λ t. SolvedRow budget p f Model (Some t)) (sym told) (model values bytes writes said))
+row_of_outcome budget f p bytes text outcome.Refuted answer fit writes said (is, told) =
+    subst (λ a. SolvedRow budget p f a (Some text)) (sym is) (subst (λ t. SolvedRow budget p f Refuted (Some t)) (sym told) (refuted bytes writes said (proof-refutes f bytes fit said)))
+row_of_outcome budget f p bytes text (outcome.Spent learned) answer fit writes said (is, told) =
+    subst (λ a. SolvedRow budget p f a (Some text)) (sym (is ∙ ap Unknown said.0))
+    (subst (λ t. SolvedRow budget p f (Unknown budget) (Some t)) (sym told) (unknown bytes writes (said.1 ∙ said.0)))
 
--- bytes that step and were written whole are a front of bytes that step
-pub proves_front : (budget : ℕ) (f : Problem) (p : Change Sink) (bytes : List ℕ) → Proves budget f p bytes → GotSteps f p
-proves_front budget f p bytes h = (bytes, h.steps, (bytes, [], sym (append-nil bytes), h.got))
-
-pub solved_reply : (budget : ℕ) (f : Problem) (p : Change Sink) (o : Outcome) (r : Reply) → IsFormula f → Finds budget f p o → IsReplyOf o r → IsSolvedReply budget f p r
-solved_reply budget f p o (reply.Text answer text) fit (bytes, proves, said) told = (bytes, row_of_outcome budget f p bytes text.items o answer fit proves said told)
+pub solved_reply : (budget : ℕ) (f : Problem) (p : Change Sink) (o : Outcome) (r : Reply) → IsFormula f → Finds budget f p o → IsReplyOf o r → IsReply (SolvedRow budget p f) r
+solved_reply budget f p o (reply.Text answer text) fit (bytes, writes, said) told = row_of_outcome budget f p bytes text.items o answer fit writes said told
 solved_reply budget f p o reply.Usage fit found told = absurd told
-solved_reply budget f p o (reply.Silent answer) fit (bytes, proves, said) told =
-    subst (λ a. IsSolvedReply budget f p (reply.Silent a)) (sym told) (inr (proves_front budget f p bytes proves))
+solved_reply budget f p o (reply.Silent answer) fit (bytes, writes, said) told =
+    subst (λ a. SolvedRow budget p f a None) (sym told) (no_memory (writes_prefix budget f p bytes writes))
 
 -- faults
 pub rose_further : (old mid new : ℕ) → old ≤ mid → Rose mid new → Rose old new
