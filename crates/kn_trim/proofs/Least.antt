@@ -5,8 +5,9 @@ use Rattle.std.proofs.lemmas.Bool.{cases_lt}
 use Rattle.kn_logic.specs.Formulas.{Problem}
 use Rattle.kn_lines.specs.declared.line.Line.{Line}
 use Rattle.kn_lines.specs.declared.line.Line.TheVariants.{Header, Define, Lemma, Learned, Klause, Unfold, Delete}
+use Rattle.kn_rules.specs.Stepping.{is_deletion}
 use Rattle.kn_trim.specs.Numbers.{mark_at, is_marked}
-use Rattle.kn_trim.specs.Needed.{Kept, kept_by, marks_given, AreMarked, AreMet, HasEnd, AreWithin, AreNeeded, ids_given, variables_given, named_ids, named_variables, is_end, is_deletion}
+use Rattle.kn_trim.specs.Needed.{Kept, kept_by, marks_given, AreMarked, AreMet, HasEnd, AreWithin, AreNeeded, ids_given, variables_given, named_ids, named_variables, is_end}
 use Rattle.kn_trim.specs.Marking.{is_any, Marked, Place, behind, is_needed, with_mark, marked, AreBefore, NameBefore, HasRoom}
 use Rattle.kn_trim.proofs.NumberLemmas.{first-marked}
 use Rattle.kn_trim.proofs.Growing.{HaveMark}

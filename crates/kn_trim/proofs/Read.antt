@@ -8,7 +8,7 @@ use Rattle.kn_logic.specs.Formulas.{Problem}
 use Rattle.kn_text.specs.Lines.{Line as TextLine, content_from, content_of, is_skipped, lines_of, unless_skipped, words_of}
 use Rattle.kn_lines.specs.declared.line.Line.{Line}
 use Rattle.kn_lines.specs.Lines.{SpellsWords, SpellsNone, IsWellFormed}
-use Rattle.kn_lines.proofs.Spelling.{one_spelling}
+use Rattle.kn_lines.proofs.Public.{one_spelling}
 use Rattle.kn_rules.specs.Marks.{Assumed}
 use Rattle.kn_rules.specs.States.{ProofState, start}
 use Rattle.kn_rules.specs.Steps.{step}

@@ -6,22 +6,23 @@ use Rattle.kn_logic.specs.Constraints.{Bounded}
 use Rattle.kn_logic.specs.Formulas.{Problem, IsFormula}
 use Rattle.kn_text.specs.Lines.{Line as TextLine, line_text, IsPlainLine, IsContent, content_of, numbered}
 use Rattle.kn_text.specs.Numbers.{IsWritable}
-use Rattle.kn_text.proofs.Written.{content_of_lines}
+use Rattle.kn_text.proofs.Public.{content_of_lines}
 use Rattle.kn_lines.specs.declared.line.Arm.{Arm}
 use Rattle.kn_lines.specs.declared.line.Arm.TheVariants as arm
 use Rattle.kn_lines.specs.declared.line.Line.{Line}
 use Rattle.kn_lines.specs.declared.line.Line.TheVariants.{Header, Define, Lemma, Learned, Klause, Unfold, Delete}
 use Rattle.kn_lines.specs.Lines.{line_words, SpellsWords, IsWellFormed, IsInRange, AreIds, AreNumbers, AreLiterals, IsArmInRange}
-use Rattle.kn_lines.proofs.Written.{written_words_spell, written_is_plain, written_is_content, spelled_is_in_range}
-use Rattle.kn_lines.proofs.Spelling.{one_spelling, spelled_is_formed}
+use Rattle.kn_lines.proofs.Public.{written_words_spell, written_is_plain, written_is_content, spelled_is_in_range}
+use Rattle.kn_lines.proofs.Public.{one_spelling, spelled_is_formed}
 use Rattle.kn_rules.specs.States.{ProofState, start}
 use Rattle.kn_rules.specs.Steps.{hinted, step}
+use Rattle.kn_rules.specs.Stepping.{StepsBy}
 use Rattle.kn_rules.specs.Proofs.{Runs, StepsThrough, IsProof}
 use Rattle.kn_trim.specs.Numbers.{is_marked, new_number}
 use Rattle.kn_trim.specs.Used.{picked, used_marks, used_ids, lean, lines_from, lean_lines}
 use Rattle.kn_trim.specs.Needed.{Kept, kept_by, AreMarked, IsMet, AreMet, variables_of, arm_variables, renumbered_literal, renumbered_arm, renumbered_constraint, renumbered, kept_lines, AreSpelled, AreBehindHeader, IsTrimmed}
 use Rattle.kn_trim.proofs.NumberLemmas.{number_positive, number-below, new_are_ids}
-use Rattle.kn_trim.proofs.Whole.{StepsBy, Leans, kept-steps, ends, refutes}
+use Rattle.kn_trim.proofs.Whole.{Leans, kept-steps, ends, refutes}
 
 -- a line that can be written, and is read again
 pub record IsGood (line : Line) : Type 0 where

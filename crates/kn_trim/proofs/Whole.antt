@@ -11,6 +11,7 @@ use Rattle.kn_lines.specs.declared.line.Line.TheVariants.{Header, Define, Lemma,
 use Rattle.kn_rules.specs.declared.given.Given.{Given}
 use Rattle.kn_rules.specs.States.{ProofState, start, from_file}
 use Rattle.kn_rules.specs.Steps.{is_empty, step}
+use Rattle.kn_rules.specs.Stepping.{StepsBy}
 use Rattle.kn_trim.specs.Numbers.{is_marked, new_number}
 use Rattle.kn_trim.specs.Used.{lean}
 use Rattle.kn_trim.specs.Needed.{Kept, kept_by, marks_given, AreMet, IsMet, HasEnd, ids_given, variables_given, is_end, renumbered_literal, renumbered_constraint, renumbered, kept_lines}
@@ -20,12 +21,7 @@ use Rattle.kn_trim.proofs.Follows.{IsKept, live_in, IsEntryAlike, IsLiveAlike, F
 use Rattle.kn_trim.proofs.Growing.{HaveMark}
 use Rattle.kn_trim.proofs.Lines.{HaveMarks, StepsAlike, line-kept, line-dropped, Grows, step-grows}
 
--- the lines step, one after another
-abbrev pub StepsBy : ProofState → List Line → ProofState → Type 0
-StepsBy old [] new = old ≡ new
-StepsBy old (line ∷ lines) new = (next : ProofState) × (step old line ≡ Ok next) × StepsBy next lines new
-
--- the same, with each line's used hints
+-- The lines step, one after another; and these are the same lines with their used hints alone.
 abbrev pub Leans : ProofState → List Line → List Line → ProofState → Type 0
 Leans s [] [] last = s ≡ last
 Leans s (line ∷ lines) (l ∷ leans) last = (next : ProofState) × (step s line ≡ Ok next) × (l ≡ lean s line) × Leans next lines leans last

@@ -6,7 +6,7 @@ ghost use Rattle.kn_lines.specs.Lines.{IsWellFormed};
 ghost use Rattle.kn_trim.specs.Needed.{AreMet, AreNeeded, kept_by, kept_lines, proof_text};
 
 use crate::renumbering::Renumbering;
-use kn_lines::{Line, push_line, write_line};
+use kn_lines::{Line, write_line};
 use kn_logic::{Formula, NoMemory};
 use std::alloc::Global;
 
@@ -65,7 +65,7 @@ fn write_lines(
     for (place, line) in lines.iter().enumerate() {
         if own[place] {
             let line = kept.line(alloc, line)?;
-            push_line(&mut text, &line)?;
+            text.extend_from_slice(&write_line(alloc, &line)?)?;
         }
     }
     Ok(text)
