@@ -2,6 +2,7 @@
 use Rattle.std.proofs.Common.{◌≡◌, ℕ, suc, ◌+◌, ◌&&◌, Bool, true, false, not, cond, List, [], ◌∷◌, ◌++◌, map, length, Option, None, Some, Result, Ok, Err, refl, sym, ap, ◌∙◌, subst, arith}
 use Rattle.std.specs.List.{AllByRecursion}
 use Rattle.std.specs.Option.{option_map, is_none}
+use Rattle.std.proofs.lemmas.Bool.{and_from}
 use Rattle.kn_logic.specs.Literals.{Literal, negated}
 use Rattle.kn_logic.specs.Constraints.{Bounded}
 use Rattle.kn_lines.specs.declared.line.Arm.{Arm}
@@ -19,13 +20,7 @@ use Rattle.kn_trim.proofs.Renaming.{IsOver}
 use Rattle.kn_trim.proofs.Grids.{IsArmOver, root-alike, different-kept}
 use Rattle.kn_trim.proofs.Follows.{IsKept, injective, Follows, live-alike, defined-alike}
 use Rattle.kn_trim.proofs.Growing.{HaveMark, one-kept, one-dropped, variable-kept, variable-dropped, many-kept, many-dropped, deleted-alike}
-use Rattle.kn_trim.proofs.Stepping.{both-true, variable-known}
-
-abbrev made : ProofState → Result ProofState ℕ
-made x = Ok x
-
-ok-is : {a b : ProofState} → made a ≡ made b → b ≡ a
-ok-is f = cc
+use Rattle.kn_trim.proofs.Stepping.{made-is, variable-known}
 
 -- unfoldings
 abbrev pub Unfolds : ProofState → ProofState → ℕ → ℕ → Type 0
@@ -38,7 +33,7 @@ unfold-parts s s' id root e = split (is_known_variable s.vars root) (live_at s.g
     last c false d g i j k a b e = absurd cc
     last c true false g i j k a b e = absurd cc
     last c true true false i j k a b e = absurd cc
-    last c true true true i j k a b e = (c, a, b, i, j, k, ok-is e)
+    last c true true true i j k a b e = (c, a, b, i, j, k, made-is _ s' e)
 
     split : (v : Bool) (o : Option Bounded) → is_known_variable s.vars root ≡ v → live_at s.given id ≡ o → cond {A = Result ProofState ℕ} v (if_klause s root o) (Err 3) ≡ Ok s' → Unfolds s s' id root
     split false o a b e = absurd cc
@@ -83,10 +78,10 @@ define-parts s s' x high low e = split (is_known_variable s.vars x.variable) (is
     split false b c i j k e = absurd cc
     split true false c i j k e = absurd cc
     split true true false i j k e = absurd cc
-    split true true true i j k e = (i, j, k, ok-is e)
+    split true true true i j k e = (i, j, k, made-is _ s' e)
 
 define-makes : (t : ProofState) (x : Literal) (high low : Arm) → is_known_variable t.vars x.variable ≡ true → is_known_arm t.vars high ≡ true → is_known_arm t.vars low ≡ true → define t x high low ≡ Ok (with_definition t x high low)
-define-makes t x high low a b c = rw (both-true _ _ a (both-true _ _ b c)) refl
+define-makes t x high low a b c = rw (and_from _ _ a (and_from _ _ b c)) refl
 
 arm-over : (marks : List Bool) (a : Arm) → AreMarked marks (arm_variables a) → IsArmOver (IsKept marks) a
 arm-over marks arm.True k = tt
@@ -98,9 +93,9 @@ arm-known base kept s t h arm.True k e = refl
 arm-known base kept s t h arm.False k e = refl
 arm-known base kept s t h (arm.Lit l) k e = variable-known base kept s t h l.variable k e
 
-first-part : (marks : List Bool) (xs ys : List ℕ) → AreMarked marks (xs ++ ys) → AreMarked marks xs × AreMarked marks ys
-first-part marks [] ys k = (tt, k)
-first-part marks (x ∷ xs) ys k = let rest = first-part marks xs ys k.1 in ((k.0, rest.0), rest.1)
+pub marked-parts : (marks : List Bool) (xs ys : List ℕ) → AreMarked marks (xs ++ ys) → AreMarked marks xs × AreMarked marks ys
+marked-parts marks [] ys k = (tt, k)
+marked-parts marks (x ∷ xs) ys k = let rest = marked-parts marks xs ys k.1 in ((k.0, rest.0), rest.1)
 
 with_arm-alike : (r : ℕ → ℕ) (x y : Literal) (a : Arm) → with_arm (renumbered_literal r x ∷ renumbered_literal r y ∷ []) (renumbered_arm r a) ≡ renumbered_constraint r (with_arm (x ∷ y ∷ []) a)
 with_arm-alike r x y arm.True = refl
@@ -145,7 +140,7 @@ pub define-kept : (base : ℕ) (kept : Kept) (s t s' : ProofState) → Follows b
 define-kept base kept s t s' h x high low e kv ki m =
     let r : ℕ → ℕ = new_number kept.variables in
     let parts = define-parts s s' x high low e in
-    let arms = first-part kept.variables (arm_variables high) (arm_variables low) kv.1 in
+    let arms = marked-parts kept.variables (arm_variables high) (arm_variables low) kv.1 in
     let kh : IsArmOver (IsKept kept.variables) high = arm-over kept.variables high arms.0 in
     let kl : IsArmOver (IsKept kept.variables) low = arm-over kept.variables low arms.1 in
     let d : Definition = record { test = x; high = high; low = low } in
@@ -177,7 +172,7 @@ delete-dropped base kept s t s' h ids e = split (deleted s.given ids) refl e
     split (Err cause) a e = absurd cc
     split (Ok after) a e =
         let alike = deleted-alike kept t.given ids s.given after a h.live in
-        subst (λ (y : ProofState). Follows base kept y t) (sym (ok-is e)) (record {
+        subst (λ (y : ProofState). Follows base kept y t) (sym (made-is _ s' e)) (record {
           vars = h.vars;
           ids = h.ids ∙ ap (new_number kept.ids) (sym alike.1);
           count = h.count;

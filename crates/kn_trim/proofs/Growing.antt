@@ -2,8 +2,9 @@
 use Rattle.std.proofs.Common.{◌≡◌, ℕ, zero, suc, ◌+◌, ◌-◌, Bool, true, false, cond, List, [], ◌∷◌, ◌++◌, map, length, length-append, append_assoc, set, Option, None, Some, IfSome, Result, Ok, Err, refl, sym, ap, ◌∙◌, subst, arith}
 use Rattle.std.specs.List.{AllByRecursion, slice_get}
 use Rattle.std.specs.Option.{is_none}
-use Rattle.std.proofs.lemmas.List.{append-nil}
+use Rattle.std.proofs.lemmas.List.{append-nil, length-set}
 use Rattle.kn_logic.specs.Constraints.{Bounded}
+use Rattle.kn_logic.proofs.Public.{at-push}
 use Rattle.kn_rules.specs.declared.definition.Definition.{Definition}
 use Rattle.kn_rules.specs.declared.given.Given.{Given}
 use Rattle.kn_rules.specs.declared.given.Origin.{Origin}
@@ -22,23 +23,12 @@ HaveMark marks place zero m = Unit {0}
 HaveMark marks place (suc count) m = (mark_at marks place ≡ m) × HaveMark marks (place + 1) count m
 
 -- elements and their places
-at-push : {X : Type 0} (P : ℕ → X → Type 0) (xs : List X) (y : X) → ((k : ℕ) → IfSome (slice_get xs k) (P k)) → P (length xs) y → (k : ℕ) → IfSome (slice_get (xs ++ y ∷ []) k) (P k)
-at-push P [] y h p zero = p
-at-push P [] y h p (suc k) = tt
-at-push P (x ∷ xs) y h p zero = h zero
-at-push P (x ∷ xs) y h p (suc k) = at-push (λ n. P (suc n)) xs y (λ n. h (suc n)) p k
-
 at-set : {X : Type 0} (P : ℕ → X → Type 0) (xs : List X) (i : ℕ) (y : X) → ((k : ℕ) → IfSome (slice_get xs k) (P k)) → ((k : ℕ) → P k y) → (k : ℕ) → IfSome (slice_get (set xs i y) k) (P k)
 at-set P [] i y h p k = tt
 at-set P (x ∷ xs) zero y h p zero = p zero
 at-set P (x ∷ xs) zero y h p (suc k) = h (suc k)
 at-set P (x ∷ xs) (suc i) y h p zero = h zero
 at-set P (x ∷ xs) (suc i) y h p (suc k) = at-set (λ n. P (suc n)) xs i y (λ n. h (suc n)) (λ n. p (suc n)) k
-
-length-set : {X : Type 0} (xs : List X) (i : ℕ) (y : X) → length (set xs i y) ≡ length xs
-length-set [] i y = refl
-length-set (x ∷ xs) zero y = refl
-length-set (x ∷ xs) (suc i) y = ap suc (length-set xs i y)
 
 last-at : {X : Type 0} (xs : List X) (y : X) → slice_get (xs ++ y ∷ []) (length xs) ≡ Some y
 last-at [] y = refl
@@ -185,14 +175,11 @@ without-alike : (kept : Kept) (given' given : List Given) (id : ℕ) (o : Option
 without-alike kept given' given id None h = (h, refl)
 without-alike kept given' given id (Some entry) h = (at-set (IsEntryAlike kept given') given (id - 1) (record entry { live = None }) h (λ k m. tt), length-set given (id - 1) (record entry { live = None }))
 
-pub deleted-alike : (kept : Kept) (given' : List Given) (ids : List ℕ) (given after : List Given) → deleted given ids ≡ Ok after → ((place : ℕ) → IfSome (slice_get given place) (IsEntryAlike kept given' place)) → ((place : ℕ) → IfSome (slice_get after place) (IsEntryAlike kept given' place)) × (length after ≡ length given)
-deleted-alike kept given' [] given after e h = (subst (λ (g : List Given). (place : ℕ) → IfSome (slice_get g place) (IsEntryAlike kept given' place)) (ok-is e) h, ap length (sym (ok-is e)))
-  where
-    made : List Given → Result (List Given) ℕ
-    made g = Ok g
+after-is : (a b : List Given) → ◌≡◌ {A = Result (List Given) ℕ} (Ok a) (Ok b) → a ≡ b
+after-is a b e = cc
 
-    ok-is : {a b : List Given} → made a ≡ made b → a ≡ b
-    ok-is e = cc
+pub deleted-alike : (kept : Kept) (given' : List Given) (ids : List ℕ) (given after : List Given) → deleted given ids ≡ Ok after → ((place : ℕ) → IfSome (slice_get given place) (IsEntryAlike kept given' place)) → ((place : ℕ) → IfSome (slice_get after place) (IsEntryAlike kept given' place)) × (length after ≡ length given)
+deleted-alike kept given' [] given after e h = (subst (λ (g : List Given). (place : ℕ) → IfSome (slice_get g place) (IsEntryAlike kept given' place)) (after-is given after e) h, ap length (sym (after-is given after e)))
 deleted-alike kept given' (id ∷ ids) given after e h =
     let next = without-alike kept given' given id (given_at given id) h in
     split (is_none (live_at given id)) e (λ f. deleted-alike kept given' ids (without given id (given_at given id)) after f next.0) next.1
@@ -206,13 +193,7 @@ without-length given id None = refl
 without-length given id (Some entry) = length-set given (id - 1) (record entry { live = None })
 
 pub deleted-length : (ids : List ℕ) (given after : List Given) → deleted given ids ≡ Ok after → length after ≡ length given
-deleted-length [] given after e = ap length (sym (ok-is e))
-  where
-    made : List Given → Result (List Given) ℕ
-    made g = Ok g
-
-    ok-is : {a b : List Given} → made a ≡ made b → a ≡ b
-    ok-is e = cc
+deleted-length [] given after e = ap length (sym (after-is given after e))
 deleted-length (id ∷ ids) given after e = split (is_none (live_at given id)) e (λ f. deleted-length ids (without given id (given_at given id)) after f)
   where
     split : (t : Bool) → cond t (Err 4) (deleted (without given id (given_at given id)) ids) ≡ Ok after → (deleted (without given id (given_at given id)) ids ≡ Ok after → length after ≡ length (without given id (given_at given id))) → length after ≡ length given

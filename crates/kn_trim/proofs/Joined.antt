@@ -1,5 +1,6 @@
 -- What was read, marked and written is the trimmed text.
-use Rattle.std.proofs.Common.{◌≡◌, ℕ, ◌+◌, ◌≤◌, Bool, List, [], ◌∷◌, length, refl, sym, ap, ◌∙◌, subst, arith}
+use Rattle.std.proofs.Common.{◌≡◌, ℕ, ◌+◌, ◌≤◌, Bool, false, List, [], ◌∷◌, length, refl, sym, ap, ◌∙◌, subst, arith}
+use Rattle.std.proofs.lemmas.List.{length-replicate}
 use Rattle.kn_logic.specs.Formulas.{Problem, IsFormula}
 use Rattle.kn_lines.specs.declared.line.Line.{Line}
 use Rattle.kn_rules.specs.States.{start}
@@ -9,7 +10,7 @@ use Rattle.kn_trim.specs.Needed.{Kept, AreNeeded, AreMet, IsTrimmed, kept_by, ke
 use Rattle.kn_trim.specs.Marking.{Place, HasRoom, behind, marked, none_of, place_at, place_of}
 use Rattle.kn_trim.specs.Reading.{IsLean}
 use Rattle.kn_trim.proofs.Least.{marked-needed}
-use Rattle.kn_trim.proofs.Named.{none-marked, length-replicate}
+use Rattle.kn_trim.proofs.Named.{none-marked}
 use Rattle.kn_trim.proofs.Sound.{trimmed-is-proof}
 
 -- the marks have room for what each line finds, since they have for all
@@ -20,8 +21,8 @@ room-from : (variables ids : ℕ) (p : Place) (lines : List Line) → HasAll var
 room-from variables ids p [] h = (tt, h.0, h.1)
 room-from variables ids p (line ∷ lines) h =
     let rest = room-from variables ids (behind p line) lines h in
-    let lv = length-replicate variables in
-    let li = length-replicate ids in
+    let lv = length-replicate variables false in
+    let li = length-replicate ids false in
     let rv : p.variables + variables_given line ≤ variables = rest.1 in
     let ri : p.ids + ids_given line ≤ ids = rest.2 in
     (((omega (arith, lv, rv), omega (arith, li, ri)), rest.0), omega (arith, rv), omega (arith, ri))

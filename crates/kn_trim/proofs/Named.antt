@@ -4,10 +4,13 @@ use Rattle.std.specs.List.{AllByRecursion, list_any, slice_get}
 use Rattle.std.specs.Option.{is_none, option_and_then}
 use Rattle.std.proofs.lemmas.Option.{slice_get_within}
 use Rattle.std.proofs.lemmas.Bool.{and_parts, leb-true}
+use Rattle.std.proofs.lemmas.List.{length-map, length-replicate}
+use Rattle.std.proofs.Math.Bool.{or_assoc}
 use Rattle.kn_logic.specs.Literals.{Literal}
 use Rattle.kn_logic.specs.Constraints.{Bounded}
 use Rattle.kn_logic.specs.Formulas.{Problem}
 use Rattle.kn_logic.specs.Propagation.{after_hint}
+use Rattle.kn_logic.proofs.Public.{All-append}
 use Rattle.kn_text.specs.Lines.{Line as TextLine, content_of}
 use Rattle.kn_lines.specs.declared.line.Arm.{Arm}
 use Rattle.kn_lines.specs.declared.line.Arm.TheVariants as arm
@@ -28,8 +31,8 @@ use Rattle.kn_trim.proofs.Follows.{live_in, given-at, hinted-parts}
 use Rattle.kn_trim.proofs.Growing.{deleted-length}
 use Rattle.kn_trim.proofs.Stepping.{follow-parts, count-parts}
 use Rattle.kn_trim.proofs.Defining.{unfold-parts, define-parts}
-use Rattle.kn_trim.proofs.Lines.{Grows, step-grows}
-use Rattle.kn_trim.proofs.Whole.{Leans}
+use Rattle.kn_trim.proofs.Lines.{Grows, step-grows, or-false}
+use Rattle.kn_trim.proofs.Whole.{Leans, lean-gives}
 use Rattle.kn_trim.proofs.Least.{marked-needed}
 use Rattle.kn_trim.proofs.Sound.{used-all, steps-lean}
 
@@ -45,10 +48,6 @@ arm-before : (vars : ℕ) (a : Arm) → is_known_arm vars a ≡ true → AreBefo
 arm-before vars arm.True e = tt
 arm-before vars arm.False e = tt
 arm-before vars (arm.Lit l) e = (known-before vars l.variable e, tt)
-
-both-before : (count : ℕ) (xs ys : List ℕ) → AreBefore count xs → AreBefore count ys → AreBefore count (xs ++ ys)
-both-before count [] ys h k = k
-both-before count (x ∷ xs) ys h k = (h.0, both-before count xs ys h.1 k)
 
 -- ids
 live-before : (given : List Given) (id : ℕ) (c : Bounded) → live_at given id ≡ Some c → (1 ≤ id) × (id ≤ length given)
@@ -83,7 +82,7 @@ line-before : (s s' : ProofState) (line : Line) → step s line ≡ Ok s' → Ar
 line-before s s' (Header vars constraints) e = absurd cc
 line-before s s' (Define x high low) e =
     let parts = define-parts s s' x high low e in
-    ((known-before s.vars x.variable parts.0, both-before s.vars (arm_variables high) (arm_variables low) (arm-before s.vars high parts.1) (arm-before s.vars low parts.2)), tt)
+    ((known-before s.vars x.variable parts.0, All-append (λ n. (1 ≤ n) × (n ≤ s.vars)) (arm_variables high) (arm_variables low) (arm-before s.vars high parts.1) (arm-before s.vars low parts.2)), tt)
 line-before s s' (Lemma c hints) e =
     let parts = follow-parts s s' origin.Lemma c.lits hints e in
     (lits-before s.vars c.lits parts.1, used-all (λ n. (1 ≤ n) × (n ≤ length s.given)) c.lits hints (hinted s.given hints) (hints-before s.given hints parts.0 parts.2))
@@ -102,15 +101,6 @@ line-before s s' (Delete ids) e = split (deleted s.given ids) refl e
     split (Err cause) at f = absurd cc
     split (Ok after) at f = (tt, deleted-before ids s.given after at)
 
-pub lean-same : (s : ProofState) (line : Line) → (ids_given (lean s line) ≡ ids_given line) × (variables_given (lean s line) ≡ variables_given line) × (is_end (lean s line) ≡ is_end line)
-lean-same s (Header vars constraints) = (refl, refl, refl)
-lean-same s (Define x high low) = (refl, refl, refl)
-lean-same s (Lemma c hints) = (refl, refl, refl)
-lean-same s (Learned c hints) = (refl, refl, refl)
-lean-same s (Klause c root unit) = (refl, refl, refl)
-lean-same s (Unfold id root) = (refl, refl, refl)
-lean-same s (Delete ids) = (refl, refl, refl)
-
 -- what the lines of a run are, for the walk backwards
 pub record AreReady (none : Kept) (p : Place) (leans : List Line) (s last : ProofState) : Type 0 where
   pub named : NameBefore p leans
@@ -119,21 +109,13 @@ pub record AreReady (none : Kept) (p : Place) (leans : List Line) (s last : Proo
   pub variables : s.vars ≤ last.vars
   pub ids : length s.given ≤ length last.given
 
-or-none : (b : Bool) → b ≡ (b || false)
-or-none true = refl
-or-none false = refl
-
-grouped : (a b c : Bool) → ((a || b) || c) ≡ (a || (b || c))
-grouped true b c = refl
-grouped false b c = refl
-
 pub leans-ready : (none : Kept) (lines leans : List Line) (s last : ProofState) (p : Place) → Leans s lines leans last → p.variables ≡ s.vars → p.ids ≡ length s.given → last.vars ≤ length none.variables → length last.given ≤ length none.ids → AreReady none p leans s last
-leans-ready none [] [] s last p d v i a b = subst (AreReady none p [] s) d (record { named = tt; room = tt; refuted = or-none s.refuted; variables = omega arith; ids = omega arith })
+leans-ready none [] [] s last p d v i a b = subst (AreReady none p [] s) d (record { named = tt; room = tt; refuted = or-false s.refuted; variables = omega arith; ids = omega arith })
 leans-ready none [] (l ∷ leans) s last p d v i a b = absurd d
 leans-ready none (line ∷ lines) [] s last p d v i a b = absurd d
 leans-ready none (line ∷ lines) (l ∷ leans) s last p d v i a b =
     let grows : Grows s d.0 line = step-grows s d.0 line d.1 in
-    let same = lean-same s line in
+    let same = lean-gives s line in
     let ids : ids_given l ≡ ids_given line = ap ids_given d.2 ∙ same.0 in
     let variables : variables_given l ≡ variables_given line = ap variables_given d.2 ∙ same.1 in
     let ends : is_end l ≡ is_end line = ap is_end d.2 ∙ same.2 in
@@ -152,24 +134,16 @@ leans-ready none (line ∷ lines) (l ∷ leans) s last p d v i a b =
         rest.named,
       );
       room = ((omega (arith, v, gv, rv, a), omega (arith, i, gi, ri, b)), rest.room);
-      refuted = rest.refuted ∙ ap (λ t. t || list_any is_end leans) grows.refuted ∙ grouped s.refuted (is_end line) (list_any is_end leans) ∙ ap (λ t. s.refuted || (t || list_any is_end leans)) (sym ends);
+      refuted = rest.refuted ∙ ap (λ t. t || list_any is_end leans) grows.refuted ∙ or_assoc s.refuted (is_end line) (list_any is_end leans) ∙ ap (λ t. s.refuted || (t || list_any is_end leans)) (sym ends);
       variables = omega (arith, gv, rv);
       ids = omega (arith, gi, ri);
     }
 
 -- Each proof has one trimmed text.
-pub length-replicate : (count : ℕ) → length (replicate count false) ≡ count
-length-replicate zero = refl
-length-replicate (suc count) = ap suc (length-replicate count)
-
 pub none-marked : (count at : ℕ) → mark_at (replicate count false) at ≡ true → ⊥
 none-marked zero at e = cc
 none-marked (suc count) zero e = cc
 none-marked (suc count) (suc at) e = none-marked count at e
-
-pub length-map : (cs : List Bounded) → length cs ≡ length (map from_file cs)
-length-map [] = refl
-length-map (c ∷ cs) = ap suc (length-map cs)
 
 lines-of : (texts : List TextLine) (s last : ProofState) → Runs s texts last → (lines : List Line) × AreSpelled texts lines
 lines-of [] s last r = ([], tt)
@@ -188,9 +162,9 @@ has-trimmed f bytes p =
     let parts = steps-lean f (content_of bytes) lines last found.1 p.1 in
     let none : Kept = record { variables = replicate last.vars false; ids = replicate (length last.given) false } in
     let place : Place = record { variables = f.vars; ids = length f.constraints; refuted = false } in
-    let lv : length (replicate last.vars false) ≡ last.vars = length-replicate last.vars in
-    let li : length (replicate (length last.given) false) ≡ length last.given = length-replicate (length last.given) in
-    let ready : AreReady none place leans (start f) last = leans-ready none lines leans (start f) last place parts.0 refl (length-map f.constraints) (omega (arith, lv)) (omega (arith, li)) in (
+    let lv : length (replicate last.vars false) ≡ last.vars = length-replicate last.vars false in
+    let li : length (replicate (length last.given) false) ≡ length last.given = length-replicate (length last.given) false in
+    let ready : AreReady none place leans (start f) last = leans-ready none lines leans (start f) last place parts.0 refl (sym (length-map f.constraints from_file)) (omega (arith, lv)) (omega (arith, li)) in (
       proof_text f (kept_lines (kept_by f leans (marked none place leans).own) leans (marked none place leans).own),
       record {
         lines = lines;

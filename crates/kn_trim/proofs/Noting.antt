@@ -3,11 +3,12 @@ use Rattle.std.proofs.Common.{◌≡◌, ℕ, ◌&&◌, ◌||◌, Bool, true, fa
 use Rattle.std.specs.List.{list_any}
 use Rattle.std.specs.Option.{IsSome, option_map_or}
 use Rattle.std.specs.Result.{IsOk}
+use Rattle.std.proofs.lemmas.Bool.{or_right}
 use Rattle.std.proofs.lemmas.List.Folds.{list_any-append}
 use Rattle.kn_logic.specs.Literals.{Literal, negated, is_same, has}
 use Rattle.kn_logic.specs.Constraints.{Bounded}
 use Rattle.kn_logic.specs.Propagation.{is_open, has_unset, after_hint}
-use Rattle.kn_logic.proofs.Public.{same-refl}
+use Rattle.kn_logic.proofs.Public.{has-first}
 use Rattle.kn_rules.specs.declared.given.Given.{Given}
 use Rattle.kn_rules.specs.declared.given.Origin.{Origin}
 use Rattle.kn_rules.specs.States.{ProofState}
@@ -16,13 +17,9 @@ use Rattle.kn_trim.specs.Used.{picked, is_used, used_marks, used_ids}
 use Rattle.kn_trim.specs.Noting.{used_after, used_at, used_from}
 use Rattle.kn_trim.proofs.Follows.{hinted-parts}
 
-or-more : (a b : Bool) → b ≡ true → (a || b) ≡ true
-or-more true b e = refl
-or-more false b e = e
-
 all-there : (trail front rest : List Literal) → ((l : Literal) → has rest l ≡ true → has trail l ≡ true) → list_any (λ l. not (has trail l)) rest ≡ false
 all-there trail front [] h = refl
-all-there trail front (x ∷ rest) h = rw (h x (ap (λ b. b || has rest x) (same-refl x))) (all-there trail front rest (λ l e. h l (or-more (is_same l x) (has rest l) e)))
+all-there trail front (x ∷ rest) h = rw (h x (has-first x rest)) (all-there trail front rest (λ l e. h l (or_right (is_same l x) (has rest l) e)))
 
 pub is_used_none : (trail : List Literal) → is_used trail (Some trail) ≡ false
 is_used_none trail = all-there trail [] trail (λ l e. e)

@@ -2,7 +2,7 @@
 use Rattle.std.proofs.Common.{◌≡◌, ℕ, ◌+◌, ◌++◌, ◌||◌, Bool, true, false, List, [], ◌∷◌, map, length, Result, Ok, Err, refl, sym, ap, ◌∙◌, subst, append_assoc, arith}
 use Rattle.std.specs.List.{AllByRecursion, list_any}
 use Rattle.std.specs.Result.{IsOk}
-use Rattle.std.proofs.lemmas.List.{append-nil}
+use Rattle.std.proofs.lemmas.List.{append-nil, length-map, length-replicate}
 use Rattle.kn_logic.specs.Literals.{Literal}
 use Rattle.kn_logic.specs.Formulas.{Problem}
 use Rattle.kn_text.specs.Lines.{Line as TextLine, content_from, content_of, is_skipped, lines_of, unless_skipped, words_of}
@@ -10,17 +10,18 @@ use Rattle.kn_lines.specs.declared.line.Line.{Line}
 use Rattle.kn_lines.specs.Lines.{SpellsWords, SpellsNone, IsWellFormed}
 use Rattle.kn_lines.proofs.Public.{one_spelling}
 use Rattle.kn_rules.specs.Marks.{Assumed}
-use Rattle.kn_rules.specs.States.{ProofState, start}
+use Rattle.kn_rules.specs.States.{ProofState, start, from_file}
 use Rattle.kn_rules.specs.Steps.{step}
 use Rattle.kn_rules.specs.Proofs.{Makes, Runs, StepsThrough, IsProof}
 use Rattle.kn_trim.specs.Used.{lean, lines_from, lean_lines}
 use Rattle.kn_trim.specs.Needed.{AreSpelled, AreBehindHeader, is_end, ids_given, variables_given}
 use Rattle.kn_trim.specs.Marking.{Place, behind, place_at, place_of, none_of}
 use Rattle.kn_trim.specs.Reading.{Read, IsIdle, Takes, IsBehindFirst, IsLean}
+use Rattle.kn_trim.proofs.Stepping.{made-is}
 use Rattle.kn_trim.proofs.Lines.{Grows, step-grows}
-use Rattle.kn_trim.proofs.Whole.{Leans}
+use Rattle.kn_trim.proofs.Whole.{Leans, lean-gives}
 use Rattle.kn_trim.proofs.Sound.{IsGood, steps-lean}
-use Rattle.kn_trim.proofs.Named.{AreReady, leans-ready, lean-same, length-replicate, length-map}
+use Rattle.kn_trim.proofs.Named.{AreReady, leans-ready}
 
 -- What was read up to here: some lines, which led to the state; and the rest of the text steps from it.
 pub record IsReadUpTo (f : Problem) (bytes : List ℕ) (r : Read) (rest : List ℕ) : Type 0 where
@@ -111,13 +112,10 @@ leans-push [] (l ∷ leans) s mid next line d e = absurd d
 leans-push (x ∷ lines) [] s mid next line d e = absurd d
 leans-push (x ∷ lines) (l ∷ leans) s mid next line d e = (d.0, d.1, d.2, leans-push lines leans d.0 mid next line d.3 e)
 
-same-state : (a b : ProofState) → ◌≡◌ {A = Result ProofState ℕ} (Ok a) (Ok b) → a ≡ b
-same-state a b e = cc
-
 pub read-line : (f : Problem) (bytes rest text behind : List ℕ) (r r' : Read) (line : Line) → lines_of rest ≡ text ∷ lines_of behind → is_skipped (words_of text) ≡ false → SpellsWords (words_of text) line → Takes line r r' → IsReadUpTo f bytes r rest → IsReadUpTo f bytes r' behind
 read-line f bytes rest text behind r r' line e s k t h =
     let next = next-step f bytes rest text behind r line e s k h in
-    let same : next.0 ≡ r'.state = same-state next.0 r'.state (sym next.1 ∙ t.steps) in
+    let same : next.0 ≡ r'.state = sym (made-is next.0 r'.state (sym next.1 ∙ t.steps)) in
     let content = kept-content h.number text (lines_of behind) (lines_of rest) e s in
     record {
       number = h.number + 1;
@@ -146,7 +144,7 @@ leans-totals [] (l ∷ leans) s last p d v i = absurd d
 leans-totals (line ∷ lines) [] s last p d v i = absurd d
 leans-totals (line ∷ lines) (l ∷ leans) s last p d v i =
     let grows : Grows s d.0 line = step-grows s d.0 line d.1 in
-    let same = lean-same s line in
+    let same = lean-gives s line in
     leans-totals lines leans d.0 last (behind p l) d.3
     (omega (arith, v, grows.variables, ap variables_given d.2, same.1))
     (omega (arith, i, grows.ids, ap ids_given d.2, same.0))
@@ -161,10 +159,10 @@ read-all f bytes r leans variables ids p h l v i =
     let run : Leans (start f) h.done leans r.state = subst (λ (ls : List Line). Leans (start f) h.done ls r.state) (sym l) h.leans in
     let lean : leans ≡ lean_lines (start f) h.done = leans-are h.done leans (start f) r.state run in
     let parts = steps-lean f (content_of bytes) h.done p.0 spelled p.1 in
-    let totals = leans-totals h.done leans (start f) r.state (place_of f) run refl (length-map f.constraints) in
-    let lv = length-replicate r.state.vars in
-    let li = length-replicate (length r.state.given) in
-    let ready : AreReady (none_of r.state.vars (length r.state.given)) (place_of f) leans (start f) r.state = leans-ready (none_of r.state.vars (length r.state.given)) h.done leans (start f) r.state (place_of f) run refl (length-map f.constraints) (omega (arith, lv)) (omega (arith, li)) in
+    let totals = leans-totals h.done leans (start f) r.state (place_of f) run refl (sym (length-map f.constraints from_file)) in
+    let lv = length-replicate r.state.vars false in
+    let li = length-replicate (length r.state.given) false in
+    let ready : AreReady (none_of r.state.vars (length r.state.given)) (place_of f) leans (start f) r.state = leans-ready (none_of r.state.vars (length r.state.given)) h.done leans (start f) r.state (place_of f) run refl (sym (length-map f.constraints from_file)) (omega (arith, lv)) (omega (arith, li)) in
     record {
       lines = h.done;
       spelled = spelled;

@@ -22,6 +22,7 @@ use Rattle.kn_trim.specs.Numbers.{is_marked, new_number}
 use Rattle.kn_trim.specs.Used.{picked, used_marks, used_ids, lean, lines_from, lean_lines}
 use Rattle.kn_trim.specs.Needed.{Kept, kept_by, AreMarked, IsMet, AreMet, variables_of, arm_variables, renumbered_literal, renumbered_arm, renumbered_constraint, renumbered, kept_lines, AreSpelled, AreBehindHeader, IsTrimmed}
 use Rattle.kn_trim.proofs.NumberLemmas.{number_positive, number-below, new_are_ids}
+use Rattle.kn_trim.proofs.Defining.{marked-parts}
 use Rattle.kn_trim.proofs.Whole.{Leans, kept-steps, ends, refutes}
 
 -- a line that can be written, and is read again
@@ -72,14 +73,10 @@ arm-good marks arm.True m w = tt
 arm-good marks arm.False m w = tt
 arm-good marks (arm.Lit l) m w = literal-good marks l m.0 w
 
-split-marked : (marks : List Bool) (xs ys : List ℕ) → AreMarked marks (xs ++ ys) → AreMarked marks xs × AreMarked marks ys
-split-marked marks [] ys k = (tt, k)
-split-marked marks (x ∷ xs) ys k = let rest = split-marked marks xs ys k.1 in ((k.0, rest.0), rest.1)
-
 renumbered-good : (kept : Kept) (line : Line) → IsMet kept line → IsGood line → IsGood (renumbered (new_number kept.variables) (new_number kept.ids) line)
 renumbered-good kept (Header vars constraints) m h = h
 renumbered-good kept (Define x high low) m h =
-    let arms = split-marked kept.variables (arm_variables high) (arm_variables low) m.variables.1 in
+    let arms = marked-parts kept.variables (arm_variables high) (arm_variables low) m.variables.1 in
     record { formed = tt; range = (literal-good kept.variables x m.variables.0 h.range.0, arm-good kept.variables high arms.0 h.range.1, arm-good kept.variables low arms.1 h.range.2) }
 renumbered-good kept (Lemma c hints) m h = record {
   formed = (ap (renumbered_constraint (new_number kept.variables)) h.formed.0, new_are_ids kept.ids hints m.ids);

@@ -1,6 +1,7 @@
 -- One turn of the walk from the last line to the first.
 use Rattle.std.proofs.Common.{◌≡◌, ℕ, zero, suc, ◌+◌, ◌-◌, ◌≤◌, ◌<◌, ◌&&◌, ◌||◌, Bool, false, not, eqb, List, [], ◌∷◌, replicate, set, drop, get_or, length, refl, sym, ap, ◌∙◌, subst, arith}
 use Rattle.std.specs.Prelude.{slice_index_or, slice_set}
+use Rattle.std.proofs.lemmas.List.{drop-set, length-set, length-replicate}
 use Rattle.kn_lines.specs.declared.line.Line.{Line}
 use Rattle.kn_trim.specs.Needed.{Kept, ids_given, variables_given, named_ids, named_variables, is_end}
 use Rattle.kn_trim.specs.Marking.{is_any, Marked, Place, behind, is_needed, with_mark, marked, AreBefore, NameBefore, none_of, place_at, first_end}
@@ -38,28 +39,12 @@ facts p lines (suc at) line h k e =
 pub room : (variables ids : ℕ) (q : Place) (lines : List Line) → (length (marked (none_of variables ids) q lines).need.variables ≡ variables) × (length (marked (none_of variables ids) q lines).need.ids ≡ ids)
 room variables ids q lines =
     let h = with-need (none_of variables ids) q lines in
-    (h.0 ∙ length-replicate variables, h.1 ∙ length-replicate ids)
-  where
-    length-replicate : (count : ℕ) → length (replicate count false) ≡ count
-    length-replicate zero = refl
-    length-replicate (suc count) = ap suc (length-replicate count)
-
-drop-set : (xs : List Bool) (i : ℕ) (x : Bool) → i < length xs → drop i (set xs i x) ≡ x ∷ drop (i + 1) xs
-drop-set [] i x h = absurd (omega arith)
-drop-set (y ∷ xs) zero x h = refl
-drop-set (y ∷ xs) (suc i) x h =
-    let next : suc i + 1 ≡ suc (i + 1) = omega arith in
-    drop-set xs i x (omega arith) ∙ ap (λ n. x ∷ drop n (y ∷ xs)) (sym next)
+    (h.0 ∙ length-replicate variables false, h.1 ∙ length-replicate ids false)
 
 pub drop-back : (xs : List Bool) (at : ℕ) (x : Bool) → 0 < at → at ≤ length xs → drop (at - 1) (slice_set xs (at - 1) x) ≡ x ∷ drop at xs
 drop-back xs at x h k =
     let next : at - 1 + 1 ≡ at = omega (arith, h) in
     drop-set xs (at - 1) x (omega (arith, h, k)) ∙ ap (λ n. x ∷ drop n xs) next
-
-pub length-set : (xs : List Bool) (i : ℕ) (x : Bool) → length (slice_set xs i x) ≡ length xs
-length-set [] i x = refl
-length-set (y ∷ xs) zero x = refl
-length-set (y ∷ xs) (suc i) x = ap suc (length-set xs i x)
 
 -- what one more line makes of the marks
 pub marked-back : (none : Kept) (p : Place) (lines : List Line) (at : ℕ) (line : Line) (variables ids : ℕ) (ends taken : Bool) (needs : Kept) → Facts p lines at line →

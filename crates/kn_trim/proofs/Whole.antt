@@ -3,6 +3,8 @@ use Rattle.std.proofs.Common.{◌≡◌, ℕ, zero, suc, ◌+◌, ◌≤◌, ◌
 use Rattle.std.specs.List.{AllByRecursion, list_any, slice_get}
 use Rattle.std.specs.Option.{option_map}
 use Rattle.std.proofs.lemmas.Option.{slice_get_within}
+use Rattle.std.proofs.lemmas.List.{length-map, length-replicate}
+use Rattle.std.proofs.Math.Bool.{or_assoc}
 use Rattle.kn_logic.specs.Literals.{Literal, IsKnown, AreKnown}
 use Rattle.kn_logic.specs.Constraints.{Bounded, IsWithin, Fits}
 use Rattle.kn_logic.specs.Formulas.{Problem, IsFormula}
@@ -37,18 +39,14 @@ have-mark done (suc count) m rest =
           (subst (λ n. HaveMark ((done ++ m ∷ []) ++ (replicate count m ++ rest)) n count m) (length-append done (m ∷ [])) more),
     )
 
-length-replicate : (count : ℕ) (m : Bool) → length (replicate count m) ≡ count
-length-replicate zero m = refl
-length-replicate (suc count) m = ap suc (length-replicate count m)
-
-lean-gives : (s : ProofState) (line : Line) → (ids_given (lean s line) ≡ ids_given line) × (variables_given (lean s line) ≡ variables_given line)
-lean-gives s (Header vars constraints) = (refl, refl)
-lean-gives s (Define x high low) = (refl, refl)
-lean-gives s (Lemma c hints) = (refl, refl)
-lean-gives s (Learned c hints) = (refl, refl)
-lean-gives s (Klause c root unit) = (refl, refl)
-lean-gives s (Unfold id root) = (refl, refl)
-lean-gives s (Delete ids) = (refl, refl)
+pub lean-gives : (s : ProofState) (line : Line) → (ids_given (lean s line) ≡ ids_given line) × (variables_given (lean s line) ≡ variables_given line) × (is_end (lean s line) ≡ is_end line)
+lean-gives s (Header vars constraints) = (refl, refl, refl)
+lean-gives s (Define x high low) = (refl, refl, refl)
+lean-gives s (Lemma c hints) = (refl, refl, refl)
+lean-gives s (Learned c hints) = (refl, refl, refl)
+lean-gives s (Klause c root unit) = (refl, refl, refl)
+lean-gives s (Unfold id root) = (refl, refl, refl)
+lean-gives s (Delete ids) = (refl, refl, refl)
 
 -- marks that were passed, and those to come
 pub record IsAt (marks : List Bool) (count : Line → ℕ) (leans : List Line) (own : List Bool) (place : ℕ) : Type 0 where
@@ -128,17 +126,13 @@ file-at vars [] place h = tt
 file-at vars (c ∷ cs) zero h = h.0.within
 file-at vars (c ∷ cs) (suc place) h = file-at vars cs place h.1
 
-length-map : (cs : List Bounded) → length (map from_file cs) ≡ length cs
-length-map [] = refl
-length-map (c ∷ cs) = ap suc (length-map cs)
-
 entry-follows : (f : Problem) (leans : List Line) (own : List Bool) (place : ℕ) (o : Option Given) → slice_get (map from_file f.constraints) place ≡ o → IfSome o (λ (e : Given). IfSome e.live (IsWithin f.vars)) → IfSome o (IsEntryAlike (kept_by f leans own) (map from_file f.constraints) place)
 entry-follows f leans own place None at k = tt
 entry-follows f leans own place (Some entry) at k = λ m. inner entry.live refl k
   where
     same : new_number (replicate (length f.constraints) true ++ marks_given ids_given leans own) place ≡ place
     same = let within = slice_get_within (map from_file f.constraints) place entry at in
-        let count = length-map f.constraints in
+        let count = length-map f.constraints from_file in
         first-number (length f.constraints) (marks_given ids_given leans own) place (omega (arith, within, count))
 
     inner : (o : Option Bounded) → entry.live ≡ o → IfSome o (IsWithin f.vars) → IfSome o (IsLiveAlike (kept_by f leans own) (map from_file f.constraints) place)
@@ -153,7 +147,7 @@ entry-follows f leans own place (Some entry) at k = λ m. inner entry.live refl 
 pub start-follows : (f : Problem) (leans : List Line) (own : List Bool) → IsFormula f → Follows f.vars (kept_by f leans own) (start f) (start f)
 start-follows f leans own h =
     let first : new_number (replicate f.vars true ++ marks_given variables_given leans own) f.vars ≡ f.vars = first-number f.vars (marks_given variables_given leans own) f.vars (omega arith) in
-    let count = length-map f.constraints in
+    let count = length-map f.constraints from_file in
     let ids : new_number (replicate (length f.constraints) true ++ marks_given ids_given leans own) (length (map from_file f.constraints)) ≡ length (map from_file f.constraints) = first-number (length f.constraints) (marks_given ids_given leans own) (length (map from_file f.constraints)) (omega (arith, count)) in
     record {
       vars = sym first;
@@ -172,7 +166,7 @@ pub kept-steps : (f : Problem) (lines leans : List Line) (own : List Bool) (last
 kept-steps f lines leans own last h k d =
     run-kept f.vars (kept_by f leans own) lines leans own (start f) (start f) last
     (start-at f.vars variables_given leans own)
-    (subst (λ n. IsAt (replicate (length f.constraints) true ++ marks_given ids_given leans own) ids_given leans own n) (sym (length-map f.constraints)) (start-at (length f.constraints) ids_given leans own))
+    (subst (λ n. IsAt (replicate (length f.constraints) true ++ marks_given ids_given leans own) ids_given leans own n) (sym (length-map f.constraints from_file)) (start-at (length f.constraints) ids_given leans own))
     k d (start-follows f leans own h)
 
 -- refuted
@@ -212,8 +206,4 @@ refutes [] t end d e = subst (λ (x : ProofState). x.refuted ≡ true) d (plain 
     plain false e = e
 refutes (line ∷ lines) t end d e =
     let grows : Grows t d.0 line = step-grows t d.0 line d.1 in
-    refutes lines d.0 end d.2 (ap (λ b. b || list_any is_end lines) grows.refuted ∙ grouped t.refuted (is_end line) (list_any is_end lines) ∙ e)
-  where
-    grouped : (a b c : Bool) → ((a || b) || c) ≡ (a || (b || c))
-    grouped true b c = refl
-    grouped false b c = refl
+    refutes lines d.0 end d.2 (ap (λ b. b || list_any is_end lines) grows.refuted ∙ or_assoc t.refuted (is_end line) (list_any is_end lines) ∙ e)

@@ -1,7 +1,8 @@
 use Rattle.std.proofs.Common.{◌≡◌, ◌-◌, ◌∷◌, Bool, List, cond, drop, length, eqb, refl, sym, ap, ◌∙◌, subst, arith}
+use Rattle.std.proofs.lemmas.List.{length-set}
 use Rattle.kn_trim.specs.Needed.{Kept, named_variables, named_ids}
 use Rattle.kn_trim.specs.Marking.{AreBefore, Place, Marked, marked, none_of, place_at, place_of, with_line}
-use Rattle.kn_trim.proofs.Walk.{Facts, facts, room, drop-back, length-set, marked-back, place-zero}
+use Rattle.kn_trim.proofs.Walk.{Facts, facts, room, drop-back, marked-back, place-zero}
 use Rattle.kn_trim.proofs.marking.marked.Goals as goal
 
 pub overflow_sub-variables : goal.overflow_sub-variables
