@@ -9,7 +9,7 @@ use kn_logic::NoMemory;
 use std::alloc::Global;
 
 /// A function is wide where more nodes of one variable than this are reached.
-const NARROW: u64 = 256;
+pub(crate) const NARROW: u64 = 256;
 
 /// The greatest number of different nodes of one variable that are reached from a node.
 pub(crate) fn widest(alloc: Global, d: &Diagrams, f: Node) -> Result<u64, NoMemory>
