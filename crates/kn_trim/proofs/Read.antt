@@ -9,7 +9,7 @@ use Rattle.kn_text.specs.Lines.{Line as TextLine, content_from, content_of, is_s
 use Rattle.kn_lines.specs.declared.line.Line.{Line}
 use Rattle.kn_lines.specs.Lines.{SpellsWords, SpellsNone, IsWellFormed}
 use Rattle.kn_lines.proofs.Public.{one_spelling}
-use Rattle.kn_rules.specs.Marks.{Assumed}
+use Rattle.kn_rules.specs.Marks.{AssumedLiterals}
 use Rattle.kn_rules.specs.States.{ProofState, start, from_file}
 use Rattle.kn_rules.specs.Steps.{step}
 use Rattle.kn_rules.specs.Proofs.{Makes, Runs, StepsThrough, IsProof}
@@ -175,11 +175,11 @@ read-all f bytes r leans variables ids p h l v i =
     }
 
 -- what one line more makes of the variables
-abbrev assumed-of : ℕ → List Literal → Assumed
+abbrev assumed-of : ℕ → List Literal → AssumedLiterals
 assumed-of vars lits = record { vars = vars; lits = lits }
 
-pub idle-behind : (s s' : ProofState) (line : Line) (assumed assumed' : Assumed) → step s line ≡ Ok s' → IsIdle s assumed → assumed'.vars ≡ assumed.vars + variables_given line → assumed'.lits ≡ assumed.lits → IsIdle s' assumed'
+pub idle-behind : (s s' : ProofState) (line : Line) (assumed assumed' : AssumedLiterals) → step s line ≡ Ok s' → IsIdle s assumed → assumed'.vars ≡ assumed.vars + variables_given line → assumed'.lits ≡ assumed.lits → IsIdle s' assumed'
 idle-behind s s' line assumed assumed' e i v l =
     let grows : Grows s s' line = step-grows s s' line e in
-    ap (λ n. assumed-of n assumed'.lits) (v ∙ ap (λ (a : Assumed). a.vars + variables_given line) i ∙ sym grows.variables)
-    ∙ ap (assumed-of s'.vars) (l ∙ ap (λ (a : Assumed). a.lits) i)
+    ap (λ n. assumed-of n assumed'.lits) (v ∙ ap (λ (a : AssumedLiterals). a.vars + variables_given line) i ∙ sym grows.variables)
+    ∙ ap (assumed-of s'.vars) (l ∙ ap (λ (a : AssumedLiterals). a.lits) i)

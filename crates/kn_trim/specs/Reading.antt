@@ -5,7 +5,7 @@ use Rattle.kn_logic.specs.Formulas.{Problem}
 use Rattle.kn_text.specs.Lines.{Line as TextLine, content_from, content_of, lines_of}
 use Rattle.kn_lines.specs.declared.line.Line.{Line}
 use Rattle.kn_lines.specs.Lines.{IsWellFormed}
-use Rattle.kn_rules.specs.Marks.{Assumed}
+use Rattle.kn_rules.specs.Marks.{AssumedLiterals}
 use Rattle.kn_rules.specs.States.{ProofState, start}
 use Rattle.kn_rules.specs.Steps.{step}
 use Rattle.kn_rules.specs.Proofs.{Runs}
@@ -16,11 +16,11 @@ use Rattle.kn_trim.specs.Marking.{NameBefore, place_at, place_of}
 -- a proof as far as it was read: the state behind its lines so far, and these with their used hints alone
 pub record Read : Type 0 where
   pub state : ProofState
-  pub assumed : Assumed
+  pub assumed : AssumedLiterals
   pub lines : List Line
 
 -- no literal is assumed between two lines
-abbrev pub IsIdle : ProofState → Assumed → Type 0
+abbrev pub IsIdle : ProofState → AssumedLiterals → Type 0
 IsIdle state assumed = assumed ≡ record { vars = state.vars; lits = [] }
 
 -- one line more was read

@@ -10,7 +10,7 @@ ghost use Rattle.kn_trim.specs.Reading.{IsIdle};
 
 use kn_lines::Ids;
 use kn_logic::{Constraint, Lit, NoMemory};
-use kn_rules::{Checker, Trail};
+use kn_rules::{Assumed, Checker};
 use std::alloc::Global;
 
 /// What a hint has done in its run.
@@ -28,7 +28,7 @@ pub enum Turn {
 #[tactic(auto, using(crate::proofs::Noting::used_noted))]
 pub fn used_hints(
     alloc: Global,
-    assumed: &mut Trail,
+    assumed: &mut Assumed,
     checker: &Checker,
     lits: &[Lit],
     hints: &[u64],
@@ -46,7 +46,7 @@ pub fn used_hints(
 }
 
 /// The negations of the literals are assumed too.
-fn push_negations(assumed: &mut Trail, lits: &[Lit]) -> Result<(), NoMemory>
+fn push_negations(assumed: &mut Assumed, lits: &[Lit]) -> Result<(), NoMemory>
     requires { are_known assumed.old.vars lits.now ≡ true }
     ensures { OnOk result (assumed.new ≡ record assumed.old { lits = assumed.old.lits ++ map negated lits.now }) }
 {
@@ -59,7 +59,7 @@ fn push_negations(assumed: &mut Trail, lits: &[Lit]) -> Result<(), NoMemory>
 /// The used ones of the ids of hints, run from the literals that are assumed.
 fn used(
     alloc: Global,
-    assumed: &mut Trail,
+    assumed: &mut Assumed,
     checker: &Checker,
     hints: &[u64],
 ) -> Result<Vec<u64>, NoMemory>
@@ -84,7 +84,7 @@ fn used(
     Ok(ids)
 }
 
-fn apply(assumed: &mut Trail, hint: &Constraint) -> Result<Turn, NoMemory>
+fn apply(assumed: &mut Assumed, hint: &Constraint) -> Result<Turn, NoMemory>
     requires { IsWithin assumed.old.vars hint.now }
     ensures run { IfOk result (λ turn. Turns turn assumed.old.lits (after_hint assumed.old.lits hint.now) assumed.new.lits) }
     ensures vars { assumed.new.vars ≡ assumed.old.vars }
@@ -97,7 +97,7 @@ fn apply(assumed: &mut Trail, hint: &Constraint) -> Result<Turn, NoMemory>
 
 #[tactic(auto, using(crate::proofs::Noting::is_used_one, crate::proofs::Noting::is_used_none))]
 fn apply_guarded(
-    assumed: &mut Trail,
+    assumed: &mut Assumed,
     guard: Lit,
     bound: u64,
     lits: &[Lit],
@@ -113,7 +113,7 @@ fn apply_guarded(
     if assumed.has(guard.negated()) {
         return Ok(Turn::Nothing);
     }
-    if assumed.count_open(lits) < bound {
+    if assumed.count_open_to(lits, bound) < bound {
         assumed.push(guard.negated())?;
         return Ok(Turn::Joins);
     }
@@ -121,12 +121,12 @@ fn apply_guarded(
 }
 
 #[tactic(auto, using(crate::proofs::Noting::is_used_open, crate::proofs::Noting::is_used_none))]
-fn apply_bound(assumed: &mut Trail, bound: u64, lits: &[Lit]) -> Result<Turn, NoMemory>
+fn apply_bound(assumed: &mut Assumed, bound: u64, lits: &[Lit]) -> Result<Turn, NoMemory>
     requires { AreKnown assumed.old.vars lits.now }
     ensures run { IfOk result (λ turn. Turns turn assumed.old.lits (after_bound assumed.old.lits bound lits.now) assumed.new.lits) }
     ensures vars { assumed.new.vars ≡ assumed.old.vars }
 {
-    let open = assumed.count_open(lits);
+    let open = assumed.count_open_to(lits, bound);
     if open < bound {
         return Ok(Turn::Conflict);
     }
@@ -142,7 +142,7 @@ fn apply_bound(assumed: &mut Trail, bound: u64, lits: &[Lit]) -> Result<Turn, No
 }
 
 /// Whether some literal has no value.
-fn has_unset(assumed: &Trail, lits: &[Lit]) -> bool
+fn has_unset(assumed: &Assumed, lits: &[Lit]) -> bool
     requires { AreKnown assumed.now.vars lits.now }
     ensures { result ≡ has_unset assumed.now.lits lits.now }
 {

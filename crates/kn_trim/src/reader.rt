@@ -12,7 +12,7 @@ use crate::hints::used_hints;
 use crate::lean::Lean;
 use kn_lines::{Ids, Line};
 use kn_logic::{Formula, NoMemory};
-use kn_rules::{Checker, Trail};
+use kn_rules::{Assumed, Checker};
 use std::alloc::Global;
 use std::marker::Model;
 
@@ -20,7 +20,7 @@ use std::marker::Model;
 #[derive(Drop)]
 pub struct Reader {
     checker: Checker,
-    assumed: Trail,
+    assumed: Assumed,
     lines: Vec<Line>,
 }
 
@@ -42,7 +42,7 @@ impl Reader {
     {
         Ok(Reader {
             checker: Checker::new(alloc, f)?,
-            assumed: Trail::new(alloc, f.vars())?,
+            assumed: Assumed::new(alloc, f.vars())?,
             lines: Vec::new(alloc),
         })
     }
@@ -82,7 +82,7 @@ impl Reader {
 #[tactic(auto, using(crate::proofs::Noting::followed_known, crate::proofs::Noting::followed_live))]
 fn lean_line(
     alloc: Global,
-    assumed: &mut Trail,
+    assumed: &mut Assumed,
     checker: &Checker,
     line: &Line,
 ) -> Result<Line, NoMemory>
@@ -128,7 +128,7 @@ fn lean_line(
 }
 
 /// Literals are over the variable too that the line defines, if it defines one.
-fn grow(assumed: &mut Trail, line: &Line) -> Result<(), NoMemory>
+fn grow(assumed: &mut Assumed, line: &Line) -> Result<(), NoMemory>
     ensures vars { OnOk result (assumed.new.vars ≡ assumed.old.vars + variables_given line.now) }
     ensures lits { OnOk result (assumed.new.lits ≡ assumed.old.lits) }
 {

@@ -1,6 +1,6 @@
 use Rattle.std.proofs.Common.{◌+◌, ◌++◌, ◌∷◌, [], List, ap, sym, subst, ◌∙◌}
 use Rattle.kn_lines.specs.declared.line.Line.{Line}
-use Rattle.kn_rules.specs.Marks.{Assumed}
+use Rattle.kn_rules.specs.Marks.{AssumedLiterals}
 use Rattle.kn_trim.specs.Needed.{variables_given}
 use Rattle.kn_trim.specs.Reading.{Read, IsIdle, Takes}
 use Rattle.kn_trim.proofs.Read.{idle-behind}
@@ -13,6 +13,6 @@ returns c =
       lines = c.in_ok-push.ensures.items ∙ ap (λ (l : Line). c.self.inside.lines.items ++ l ∷ []) c.in_ok-lean.ensures.line;
       idle = idle-behind c.self.inside.checker c.accept.new.self c.args.line c.self.inside.assumed c.grow.new.assumed c.in_ok-accept.ensures.ok
           (subst (λ (r : Read). IsIdle r.state r.assumed) (sym c.self.view_is) c.requires.idle)
-          (c.in_ok-grow.ensures.vars ∙ ap (λ (a : Assumed). a.vars + variables_given c.args.line) c.in_ok-lean.ensures.idle)
-          (c.in_ok-grow.ensures.lits ∙ ap (λ (a : Assumed). a.lits) c.in_ok-lean.ensures.idle);
+          (c.in_ok-grow.ensures.vars ∙ ap (λ (a : AssumedLiterals). a.vars + variables_given c.args.line) c.in_ok-lean.ensures.idle)
+          (c.in_ok-grow.ensures.lits ∙ ap (λ (a : AssumedLiterals). a.lits) c.in_ok-lean.ensures.idle);
     })
