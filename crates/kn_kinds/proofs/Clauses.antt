@@ -1,13 +1,12 @@
 -- Two watched places of a clause.
-use Rattle.std.proofs.Common.{◌≡◌, ◌≢◌, ℕ, zero, suc, ◌+◌, ◌≤◌, ◌<◌, ◌⊎◌, ◌++◌, max, min, Bool, true, false, not, ◌&&◌, ◌||◌, cond, eqb, List, [], ◌∷◌, Option, Some, None, length, refl, sym, ap, ◌∙◌, subst, inl, inr, arith}
-use Rattle.std.specs.Prelude.{slice_index_or, slice_get}
+use Rattle.std.proofs.Common.{◌≡◌, ◌≢◌, ℕ, zero, suc, ◌+◌, ◌≤◌, ◌<◌, ◌⊎◌, ◌++◌, max, min, Bool, true, false, ◌&&◌, ◌||◌, cond, eqb, List, [], ◌∷◌, Option, Some, None, length, refl, sym, ap, ◌∙◌, subst, inl, inr, arith}
+use Rattle.std.specs.Prelude.{slice_get}
 use Rattle.std.specs.Option.{is_none}
-use Rattle.std.proofs.lemmas.Bool.{not_from_true, not_from_false, cases_Bool, cases_eq, cases_lt, eq-eqb, ne_eqb, or_parts, or_cases, or_from, or_right, and_parts, and_from, eqb-false, eqb-true, cond-true, cond-false}
+use Rattle.std.proofs.lemmas.Bool.{not_from_true, not_from_false, cases_eq, cases_lt, eq-eqb, ne_eqb, or_parts, or_cases, or_from, or_right, and_parts, and_from, eqb-false, eqb-true, cond-true, cond-false}
 use Rattle.kn_logic.specs.Constraints.{Bounded, is_clause}
-use Rattle.kn_logic.specs.Literals.{Literal, negated, has, places}
+use Rattle.kn_logic.specs.Literals.{Literal, negated, has}
 use Rattle.kn_logic.specs.Propagation.{is_open, open_places}
-use Rattle.kn_watch.specs.declared.watched.Visit.{Visit}
-use Rattle.kn_watch.specs.declared.watched.Visit.TheVariants.{Moved, Satisfied, Forces, Conflict}
+use Rattle.kn_watch.specs.declared.watched.Visit.TheVariants.{Satisfied}
 use Rattle.kn_watch.specs.Trails.{value_in}
 use Rattle.kn_watch.specs.Watches.{listed, unguarded, lit_at, count_watched, true_in, is_unset, HasWatches, IsBinding, IsSatisfied, IsForcing, IsConflicting, IsMoved, IsTurn}
 use Rattle.kn_watch.proofs.Public.{long_none, lit_own, long_least}

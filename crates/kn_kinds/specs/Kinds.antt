@@ -1,5 +1,5 @@
 -- What the kinds keep of the places that they watch, and what they find out by counting.
-use Rattle.std.specs.Prelude.{ℕ, ◌≡◌, ◌≢◌, ◌≤◌, ◌<◌, ◌+◌, max, ◌⊎◌, ◌==◌, ◌||◌, Bool, true, false, List, length, Option, Some, None, slice_index_or}
+use Rattle.std.specs.Prelude.{ℕ, ◌≡◌, ◌≢◌, ◌≤◌, ◌<◌, max, ◌==◌, ◌||◌, Bool, true, false, List, length, Option, Some, None, slice_index_or}
 use Rattle.kn_logic.specs.Literals.{Literal}
 use Rattle.kn_logic.specs.Constraints.{Bounded}
 use Rattle.kn_logic.specs.Propagation.{is_open}

@@ -1,4 +1,4 @@
-use Rattle.std.proofs.Common.{◌≡◌, ◌≢◌, ◌≤◌, ◌<◌, ◌+◌, ℕ, length, sym, subst, arith}
+use Rattle.std.proofs.Common.{◌≢◌, ◌≤◌, ◌<◌, ◌+◌, ℕ, length, sym, subst, arith}
 use Rattle.kn_watch.specs.Trails.{literals}
 use Rattle.kn_watch.specs.Watches.{lit_at}
 use Rattle.kn_kinds.specs.Latest.{rank}

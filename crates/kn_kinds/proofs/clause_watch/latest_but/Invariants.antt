@@ -1,9 +1,7 @@
-use Rattle.std.proofs.Common.{◌≡◌, ◌≢◌, ◌≤◌, ◌<◌, ◌+◌, ℕ, true, false, length, drop}
-use Rattle.kn_logic.specs.Propagation.{is_open, open_places}
+use Rattle.std.proofs.Common.{◌≢◌, ◌≤◌, ◌<◌, ℕ, length}
 use Rattle.kn_watch.specs.Trails.{literals}
-use Rattle.kn_watch.specs.Watches.{lit_at, count_watched, true_in}
-use Rattle.kn_kinds.specs.Latest.{rank, AreLatest}
-use Rattle.kn_kinds.specs.Kinds.{marked_place}
+use Rattle.kn_watch.specs.Watches.{lit_at}
+use Rattle.kn_kinds.specs.Latest.{rank}
 use Rattle.kn_kinds.proofs.clause_watch.latest_but.Given as goal
 
 abbrev pub invariant-loop-place : goal.invariant-loop-place

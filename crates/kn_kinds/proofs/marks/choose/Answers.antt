@@ -1,4 +1,3 @@
-use Rattle.std.proofs.Common.{◌≡◌}
 use Rattle.kn_watch.specs.Trails.{literals}
 use Rattle.kn_kinds.specs.Kinds.{marked_place}
 use Rattle.kn_kinds.proofs.Ranks.{rank-le, rank_open}

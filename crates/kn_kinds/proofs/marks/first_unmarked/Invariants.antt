@@ -1,8 +1,4 @@
-use Rattle.std.proofs.Common.{◌≡◌, ◌≢◌, ◌≤◌, ◌<◌, ◌+◌, ℕ, true, false, length, drop}
-use Rattle.kn_logic.specs.Propagation.{is_open, open_places}
-use Rattle.kn_watch.specs.Trails.{literals}
-use Rattle.kn_watch.specs.Watches.{lit_at, count_watched, true_in}
-use Rattle.kn_kinds.specs.Latest.{rank, AreLatest}
+use Rattle.std.proofs.Common.{◌≡◌, ◌<◌, ℕ, true}
 use Rattle.kn_kinds.specs.Kinds.{marked_place}
 use Rattle.kn_kinds.proofs.marks.first_unmarked.Given as goal
 

@@ -1,5 +1,5 @@
-use Rattle.std.proofs.Common.{◌≡◌, length, arith}
-use Rattle.kn_kinds.proofs.Marking.{all_marked, one_more, latest_more}
+use Rattle.std.proofs.Common.{length, arith}
+use Rattle.kn_kinds.proofs.Marking.{all_marked, one_more}
 use Rattle.kn_kinds.proofs.marks.mark_latest.Goals as goal
 
 pub unreachable-requires : goal.unreachable-requires

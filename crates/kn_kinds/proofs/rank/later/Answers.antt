@@ -1,6 +1,5 @@
-use Rattle.std.proofs.Common.{◌≡◌, ◌≤◌, ◌<◌, ℕ, true, sym, ap, ◌∙◌, arith}
+use Rattle.std.proofs.Common.{true, ap, arith}
 use Rattle.std.proofs.lemmas.List.{get_or_read}
-use Rattle.kn_logic.specs.Literals.{Literal}
 use Rattle.kn_watch.specs.Trails.{literals}
 use Rattle.kn_kinds.specs.Latest.{rank}
 use Rattle.kn_kinds.proofs.rank.later.Goals as goal

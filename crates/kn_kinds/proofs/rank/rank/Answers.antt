@@ -1,5 +1,5 @@
-use Rattle.std.proofs.Common.{◌≡◌, ℕ, false, length, sym, ◌∙◌, subst}
-use Rattle.std.specs.Prelude.{slice_get, IfSome, Some}
+use Rattle.std.proofs.Common.{◌≡◌, ℕ, false, sym, ◌∙◌, subst}
+use Rattle.std.specs.Prelude.{slice_get, IfSome}
 use Rattle.kn_logic.specs.Literals.{names}
 use Rattle.kn_watch.specs.Trails.{literals}
 use Rattle.kn_watch.proofs.Public.{length-literals}

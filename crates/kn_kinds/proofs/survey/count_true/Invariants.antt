@@ -1,9 +1,6 @@
-use Rattle.std.proofs.Common.{◌≡◌, ◌≢◌, ◌≤◌, ◌<◌, ◌+◌, ℕ, true, false, length, drop}
-use Rattle.kn_logic.specs.Propagation.{is_open, open_places}
+use Rattle.std.proofs.Common.{◌≡◌, ◌≤◌, ◌+◌, drop}
 use Rattle.kn_watch.specs.Trails.{literals}
-use Rattle.kn_watch.specs.Watches.{lit_at, count_watched, true_in}
-use Rattle.kn_kinds.specs.Latest.{rank, AreLatest}
-use Rattle.kn_kinds.specs.Kinds.{marked_place}
+use Rattle.kn_watch.specs.Watches.{true_in}
 use Rattle.kn_kinds.proofs.survey.count_true.Given as goal
 
 abbrev pub invariant-loop-lit : goal.invariant-loop-lit

@@ -1,5 +1,4 @@
-use Rattle.std.proofs.Common.{◌≡◌, ◌≤◌, false, true, List, Option, refl, sym, ap, ◌∙◌, inr, arith}
-use Rattle.kn_logic.specs.Literals.{Literal}
+use Rattle.std.proofs.Common.{◌≡◌, false, refl, sym, ap, ◌∙◌, inr, arith}
 use Rattle.kn_logic.specs.Propagation.{open_places}
 use Rattle.kn_watch.specs.Trails.{literals}
 use Rattle.kn_kinds.specs.Kinds.{is_undecided}

@@ -1,5 +1,4 @@
-use Rattle.std.proofs.Common.{◌≡◌, ◌<◌, true, refl, inl, arith}
-use Rattle.kn_logic.specs.Propagation.{open_places}
+use Rattle.std.proofs.Common.{true, refl, inl, arith}
 use Rattle.kn_watch.specs.Trails.{literals}
 use Rattle.kn_kinds.proofs.Surveys.{survey_forces}
 use Rattle.kn_kinds.proofs.survey.survey_undecided.Goals as goal

@@ -1,4 +1,3 @@
-use Rattle.std.proofs.Common.{◌≡◌}
 use Rattle.kn_watch.specs.Watches.{HasWatches}
 use Rattle.kn_kinds.proofs.tests.keeps_the_laws.Given as goal
 

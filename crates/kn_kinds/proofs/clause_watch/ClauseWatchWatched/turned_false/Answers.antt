@@ -1,10 +1,10 @@
-use Rattle.std.proofs.Common.{◌≡◌, ◌≢◌, ◌<◌, ℕ, List, true, false, length, max, sym, ap, ◌∙◌, subst, refl, arith}
+use Rattle.std.proofs.Common.{◌≡◌, ◌≢◌, ◌<◌, ℕ, List, true, false, length, sym, ap, ◌∙◌, subst, refl, arith}
 use Rattle.kn_logic.specs.Literals.{Literal}
 use Rattle.kn_logic.specs.Propagation.{is_open}
 use Rattle.kn_watch.specs.declared.watched.Visit.{Visit}
 use Rattle.kn_watch.specs.Trails.{literals}
 use Rattle.kn_watch.specs.Watches.{lit_at, IsTurn}
-use Rattle.kn_kinds.specs.Kinds.{either_place, ArePlaces}
+use Rattle.kn_kinds.specs.Kinds.{either_place}
 use Rattle.kn_kinds.proofs.Clauses.{clause_watches, own_place, visit_satisfied, visit_last, clause_moved, moved_places, only_open}
 use Rattle.kn_kinds.proofs.clause_watch.ClauseWatchWatched.turned_false.Goals as goal
 

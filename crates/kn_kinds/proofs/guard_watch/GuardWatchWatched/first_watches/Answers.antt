@@ -1,6 +1,6 @@
-use Rattle.std.proofs.Common.{◌≡◌, ◌+◌, ℕ, Bool, List, min, length, sym, ap, ◌∙◌, subst, arith}
+use Rattle.std.proofs.Common.{◌≡◌, ◌+◌, Bool, List, min, length, ap, ◌∙◌, arith}
 use Rattle.kn_logic.specs.Literals.{Literal}
-use Rattle.kn_kinds.proofs.Klauses.{listed_plain, klause_starts}
+use Rattle.kn_kinds.proofs.Klauses.{klause_starts}
 use Rattle.kn_kinds.proofs.guard_watch.GuardWatchWatched.first_watches.Goals as goal
 
 pub returns-clause-means : goal.returns-clause-means

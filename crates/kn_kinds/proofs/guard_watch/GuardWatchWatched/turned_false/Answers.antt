@@ -1,8 +1,8 @@
-use Rattle.std.proofs.Common.{◌≡◌, ◌<◌, ℕ, Bool, List, false, length, sym, ap, ◌∙◌, subst, arith}
+use Rattle.std.proofs.Common.{◌≡◌, Bool, List, false, length, sym, ap, ◌∙◌, subst}
 use Rattle.kn_logic.specs.Literals.{Literal}
 use Rattle.kn_watch.specs.Trails.{literals}
 use Rattle.kn_kinds.specs.Kinds.{marked_place, AreFalseUnmarked}
-use Rattle.kn_kinds.proofs.Klauses.{listed_plain, klause_moves, klause_stays}
+use Rattle.kn_kinds.proofs.Klauses.{klause_moves, klause_stays}
 use Rattle.kn_kinds.proofs.guard_watch.GuardWatchWatched.turned_false.Goals as goal
 
 pub returns-in-Some-clause-watches : goal.returns-in-Some-clause-watches

@@ -1,4 +1,4 @@
-use Rattle.std.proofs.Common.{◌≡◌, ◌+◌, ℕ, Bool, List, min, length, sym, ap, ◌∙◌, subst, arith}
+use Rattle.std.proofs.Common.{◌≡◌, Bool, List, length, ap, ◌∙◌, arith}
 use Rattle.kn_logic.specs.Literals.{Literal}
 use Rattle.kn_kinds.proofs.Klauses.{listed_plain, klause_starts}
 use Rattle.kn_kinds.proofs.klause_watch.KlauseWatchWatched.first_watches.Goals as goal

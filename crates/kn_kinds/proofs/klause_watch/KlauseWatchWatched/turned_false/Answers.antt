@@ -1,4 +1,4 @@
-use Rattle.std.proofs.Common.{◌≡◌, ◌<◌, ℕ, Bool, List, false, length, sym, ap, ◌∙◌, subst, arith}
+use Rattle.std.proofs.Common.{◌≡◌, Bool, List, false, length, sym, ap, ◌∙◌, subst}
 use Rattle.kn_logic.specs.Literals.{Literal}
 use Rattle.kn_watch.specs.Trails.{literals}
 use Rattle.kn_kinds.specs.Kinds.{marked_place, AreFalseUnmarked}
