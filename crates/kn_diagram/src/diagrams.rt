@@ -1,4 +1,4 @@
-ghost use Rattle.std.specs.Prelude.{ℕ, ◌≡◌, ◌+◌, ◌<◌, ◌≤◌, ◌&&◌, ◌||◌, ◌↔◌, min, Bool, true, false, [], length, slice_index, nat_eq, if◌then◌else◌, OnOk, OnErr, IfOk, IfErr, IfSome, is_none, nat_lt};
+ghost use Rattle.std.specs.Prelude.{ℕ, ◌≡◌, ◌+◌, ◌<◌, ◌≤◌, ◌&&◌, ◌||◌, ◌↔◌, min, Bool, true, false, [], length, slice_index, nat_eq, if◌then◌else◌, OnOk, OnErr, IfOk, IfErr, IfSome, IfNone, is_none, nat_lt};
 ghost use Rattle.std.specs.List.{IsDistinct, AllByRecursion, list_any};
 ghost use Rattle.kn_logic.specs.Constraints.{is_clause};
 ghost use Rattle.kn_logic.specs.Assignments.{value_of};
@@ -224,6 +224,23 @@ impl Diagrams {
         let widths = width::widths(*self.order.allocator(), self, f)?;
         let depth = depth_in(&self.order, var);
         Ok(widths[depth] > 0)
+    }
+
+    /// The variable that stands furthest down the order, but above this depth, of those whose value decides
+    /// the function's at some values of the others. None where there is none above the depth.
+    pub fn deepest_above(&self, f: Node, depth: usize) -> Result<Option<u64>, NoMemory>
+        requires there { IsNode self.now f }
+        requires within { depth ≤ length self.now.order }
+        ensures above { IfOk result (λ r. IfSome r (λ x. depth_in self.now.order x < depth)) }
+        ensures depends { IfOk result (λ r. IfSome r (λ x. DependsOn (function_of self.now f) x)) }
+        ensures deepest { IfOk result (λ r. IfSome r (λ x. (k : ℕ) → depth_in self.now.order x < k → k < depth → Ignores (function_of self.now f) (slice_index self.now.order k))) }
+        ensures none { IfOk result (λ r. IfNone r ((k : ℕ) → k < depth → Ignores (function_of self.now f) (slice_index self.now.order k))) }
+    {
+        let widths = width::widths(*self.order.allocator(), self, f)?;
+        let Some(place) = width::last_used(&widths, depth) else {
+            return Ok(None);
+        };
+        Ok(Some(self.order[place]))
     }
 
     /// How far down the order a variable stands, the top having 0; the length of the order where it is

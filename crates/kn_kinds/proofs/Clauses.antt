@@ -42,13 +42,13 @@ outside x from (suc n) le = let z = cond-false {A = ℕ} (eqb from x) 1 0 (ne_eq
 pub two_watched : (a b n : ℕ) → a ≢ b → a < max n 2 → b < max n 2 → count_watched (either_place a b) 0 n ≡ min 2 n
 two_watched a b n d la lb = elim (cases_lt a n) [
   | inl p ↦ elim (cases_lt b n) [
-      | inl q ↦ omega (arith, split a b 0 n d, inside a 0 n (omega arith) (omega (arith, p)), inside b 0 n (omega arith) (omega (arith, q)), d, p, q)
-      | inr q ↦ omega (arith, split a b 0 n d, inside a 0 n (omega arith) (omega (arith, p)), outside b 0 n (omega (arith, q)), d, p, q, la, lb)
-    ]
+    | inl q ↦ omega (arith, split a b 0 n d, inside a 0 n (omega arith) (omega (arith, p)), inside b 0 n (omega arith) (omega (arith, q)), d, p, q)
+    | inr q ↦ omega (arith, split a b 0 n d, inside a 0 n (omega arith) (omega (arith, p)), outside b 0 n (omega (arith, q)), d, p, q, la, lb)
+  ]
   | inr p ↦ elim (cases_lt b n) [
-      | inl q ↦ omega (arith, split a b 0 n d, outside a 0 n (omega (arith, p)), inside b 0 n (omega arith) (omega (arith, q)), d, p, q, la, lb)
-      | inr q ↦ omega (arith, split a b 0 n d, outside a 0 n (omega (arith, p)), outside b 0 n (omega (arith, q)), d, p, q, la, lb)
-    ]
+    | inl q ↦ omega (arith, split a b 0 n d, outside a 0 n (omega (arith, p)), inside b 0 n (omega arith) (omega (arith, q)), d, p, q, la, lb)
+    | inr q ↦ omega (arith, split a b 0 n d, outside a 0 n (omega (arith, p)), outside b 0 n (omega (arith, q)), d, p, q, la, lb)
+  ]
 ]
 
 -- the number of literals that are not false
@@ -134,9 +134,11 @@ clause_forces trail c other None is h e v = absurd cc
 clause_forces trail c other (Some l) is h e v =
     let r = read_at c.lits other l (sym e) in
     let u = value_none trail l v in
-    let o = open_one trail c.lits other h r.0 (subst (λ (z : Literal). is_open trail z ≡ true) (sym r.1) u.1) in
-    (other, omega (arith, r.0, long_least c.lits c.guard),
-     (subst (λ (z : Literal). is_unset trail z ≡ true) (sym (lit_own c.lits (unguarded c.guard) other r.0 ∙ r.1)) u.0, inl (r.0, o ∙ sym (one_of c is), free trail c is)))
+    let o = open_one trail c.lits other h r.0 (subst (λ (z : Literal). is_open trail z ≡ true) (sym r.1) u.1) in (
+      other,
+      omega (arith, r.0, long_least c.lits c.guard),
+      (subst (λ (z : Literal). is_unset trail z ≡ true) (sym (lit_own c.lits (unguarded c.guard) other r.0 ∙ r.1)) u.0, inl (r.0, o ∙ sym (one_of c is), free trail c is)),
+    )
 
 pub clause_conflict : (trail : List Literal) (c : Bounded) (other : ℕ) (lit : Option Literal) → is_clause c ≡ true → OnlyOpen trail c.lits other → lit ≡ slice_get c.lits other → value_of trail lit ≡ Some false → IsConflicting trail c
 clause_conflict trail c other None is h e v =

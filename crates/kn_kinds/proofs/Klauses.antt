@@ -33,7 +33,7 @@ klause_starts t c lits old new n wanted bound v k e long b w counted latest s =
     let count = subst (λ (x : List Literal). count_watched (marked_place new) 0 (length x) ≡ min (bound + 1) (length x)) e (counted ∙ w) in
     let watches : HasWatches c (marked_place new) = omega (arith, count, b) in
     subst (λ (x : List Bool). IsStart t.made c (marked_place x) v) (sym (written_back n new old long))
-      (start_means t c (marked_place new) v k watches (subst (λ (x : List Literal). AreLatest (literals t.made) x (marked_place new)) e latest) s)
+    (start_means t c (marked_place new) v k watches (subst (λ (x : List Literal). AreLatest (literals t.made) x (marked_place new)) e latest) s)
 
 pub klause_moves : (c : Bounded) (lits : List Literal) (marks : List Bool) (from to : ℕ) → lits ≡ listed c → length marks ≡ length lits → HasWatches c (marked_place marks) → from < length (listed c) → marked_place marks from ≡ true → to < length lits → marked_place marks to ≡ false → HasWatches c (marked_place (slice_set (slice_set marks from false) to true))
 klause_moves c lits marks from to e long watches fl fw tl tw =

@@ -29,9 +29,9 @@ place_in n [] rest h = absurd cc
 place_in n (x ∷ front) rest h = elim (cases_Bool (is_same n x)) [
   | inl e ↦ omega (arith, place_here n x (front ++ rest) e)
   | inr e ↦ elim (or_cases (is_same n x) (has front n) h) [
-      | inl s ↦ absurd cc
-      | inr t ↦ omega (arith, place_next n x (front ++ rest) e, place_in n front rest t)
-    ]
+    | inl s ↦ absurd cc
+    | inr t ↦ omega (arith, place_next n x (front ++ rest) e, place_in n front rest t)
+  ]
 ]
 
 in_place : (n : Literal) (front rest : List Literal) → position_or_len (is_same n) (front ++ rest) < length front → has front n ≡ true
@@ -77,9 +77,9 @@ place_found (x ∷ made) (suc place) m n d h e v = elim (cases_Bool (is_same n x
       let var = eqb-true n.variable x.lit.variable (and_parts (eqb n.variable x.lit.variable) (cond n.positive x.lit.positive (not x.lit.positive)) s).0 in
       absurd (not_named made place x.lit.variable m e d.0 (v ∙ var)))
   | inr s ↦ elim (or_cases (is_same n x.lit) (has (literals made) n) h) [
-      | inl t ↦ absurd cc
-      | inr t ↦ omega (arith, place_next n x.lit (literals made) s, place_found made place m n d.1 t e v)
-    ]
+    | inl t ↦ absurd cc
+    | inr t ↦ omega (arith, place_next n x.lit (literals made) s, place_found made place m n d.1 t e v)
+  ]
 ]
 
 pub rank_at : (made : List Made) (l : Literal) (place : ℕ) (m : Made) → AreDifferent (literals made) → is_open (literals made) l ≡ false → slice_get made place ≡ Some m → m.lit.variable ≡ l.variable → place ≡ rank (literals made) l

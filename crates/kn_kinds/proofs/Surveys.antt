@@ -33,21 +33,26 @@ unset_negated trail g u =
 -- the guard's place
 forces_off : (trail : List Literal) (lits : List Literal) (guard : Option Literal) (bound : ℕ) → is_undecided trail guard ≡ true → open_places trail lits < bound → IsForcing trail (record { guard = guard; bound = bound; lits = lits })
 forces_off trail lits None bound u lt = absurd cc
-forces_off trail lits (Some g) bound u lt =
-    (length lits, omega (arith, long_one lits (negated g)),
-     (subst (λ (z : Literal). is_unset trail z ≡ true) (sym (lit_last lits (negated g) (length lits) refl)) (unset_negated trail g u), inr (omega arith, lt)))
+forces_off trail lits (Some g) bound u lt = (
+  length lits,
+  omega (arith, long_one lits (negated g)),
+  (subst (λ (z : Literal). is_unset trail z ≡ true) (sym (lit_last lits (negated g) (length lits) refl)) (unset_negated trail g u), inr (omega arith, lt)),
+)
 
 few_unset : (trail : List Literal) (c : Bounded) → (IsSatisfied trail c → ⊥) → open_places trail c.lits ≡ c.bound → has_unset trail c.lits ≡ true
 few_unset trail c n o = true_from_ne_false (has_unset trail c.lits) (λ e. n (inl (omega (arith, o, all_true trail c.lits e))))
 
 -- the answers of a survey
 pub survey_moved : (trail : List Literal) (c : Bounded) → (IsSatisfied trail c → ⊥) → (c.bound < open_places trail c.lits) ⊎ ((is_undecided trail c.guard ≡ true) × (open_places trail c.lits ≡ c.bound)) → IsSurveyed trail c (Moved 0)
-survey_moved trail c n h = (refl, n,
+survey_moved trail c n h = (
+  refl,
+  n,
   λ f. elim (f.2.1) [
     | inl o ↦ elim h [ inl lt ↦ omega (arith, lt, o.1) | inr u ↦ not_on trail c.guard u.0 o.2 ]
     | inr o ↦ elim h [ inl lt ↦ omega (arith, lt, o.1) | inr u ↦ omega (arith, u.1, o.1) ]
   ],
-  λ k. elim h [ inl lt ↦ omega (arith, lt, k.0) | inr u ↦ omega (arith, u.1, k.0) ])
+  λ k. elim h [ inl lt ↦ omega (arith, lt, k.0) | inr u ↦ omega (arith, u.1, k.0) ],
+)
 
 pub survey_forces : (trail : List Literal) (c : Bounded) → (IsSatisfied trail c → ⊥) → open_places trail c.lits ≤ c.bound → (u : Bool) → is_undecided trail c.guard ≡ u → ((u ≡ true) × (open_places trail c.lits < c.bound)) ⊎ ((u ≡ false) × (open_places trail c.lits ≡ c.bound)) → IsForcing trail c
 survey_forces trail c n le u e (inl h) = forces_off trail c.lits c.guard c.bound (e ∙ h.0) h.1
@@ -81,8 +86,8 @@ none_false t c watched to latest hw s = λ p pl wp. elim (cases_Bool (is_open (l
   | inl o ↦ o
   | inr o ↦ (
       let lt = open_lt (literals t.made) watched (listed c) zero p
-        (λ q ql x. subst (λ (n : ℕ). watched n ≡ true) (omega arith) (latest.open_ p q pl ql wp o x)) pl
-        (subst (λ (n : ℕ). watched n ≡ true) (omega arith) wp) o in
+      (λ q ql x. subst (λ (n : ℕ). watched n ≡ true) (omega arith) (latest.open_ p q pl ql wp o x)) pl
+      (subst (λ (n : ℕ). watched n ≡ true) (omega arith) wp) o in
       absurd (omega (arith, lt, hw, many_open (literals t.made) c to s)))
 ]
 

@@ -14,7 +14,11 @@ use kn_watch::Trail;
 pub(crate) fn watch_count(bound: u64, count: usize) -> usize
     ensures { result ≡ min (bound + 1) count }
 {
-    if bound < count as u64 { bound as usize + 1 } else { count }
+    if bound < count as u64 {
+        bound as usize + 1
+    } else {
+        count
+    }
 }
 
 // marks so many places and no others: those that are not false, and then those that became false last
@@ -103,7 +107,12 @@ fn latest_unmarked(lits: &[Lit], marks: &[bool], first: usize, trail: &Trail) ->
 }
 
 // a place without a mark whose literal is not false, looked for from this place on and then from the start
-pub(crate) fn next_unmarked(lits: &[Lit], marks: &[bool], hand: usize, trail: &Trail) -> Option<usize>
+pub(crate) fn next_unmarked(
+    lits: &[Lit],
+    marks: &[bool],
+    hand: usize,
+    trail: &Trail,
+) -> Option<usize>
     requires long { length marks.now ≡ length lits.now }
     requires hand { hand ≤ length lits.now }
     ensures some { IfSome result (λ to. (to < length lits.now) × (marked_place marks.now to ≡ false) × (is_open (literals trail.now.made) (lit_at lits.now to) ≡ true)) }
@@ -116,7 +125,13 @@ pub(crate) fn next_unmarked(lits: &[Lit], marks: &[bool], hand: usize, trail: &T
 }
 
 // the first of the places from one on and before another that has no mark and whose literal is not false
-fn unmarked_in(lits: &[Lit], marks: &[bool], from: usize, end: usize, trail: &Trail) -> Option<usize>
+fn unmarked_in(
+    lits: &[Lit],
+    marks: &[bool],
+    from: usize,
+    end: usize,
+    trail: &Trail,
+) -> Option<usize>
     requires long { length marks.now ≡ length lits.now }
     requires end { end ≤ length lits.now }
     ensures some { IfSome result (λ to. (to < length lits.now) × (marked_place marks.now to ≡ false) × (is_open (literals trail.now.made) (lit_at lits.now to) ≡ true)) }

@@ -28,5 +28,9 @@ pub(crate) fn later(lits: &[Lit], first: usize, second: usize, trail: &Trail) ->
     ensures first { rank (literals trail.now.made) (lit_at lits.now first) ≤ rank (literals trail.now.made) (lit_at lits.now result) }
     ensures second { rank (literals trail.now.made) (lit_at lits.now second) ≤ rank (literals trail.now.made) (lit_at lits.now result) }
 {
-    if rank(lits[first], trail) < rank(lits[second], trail) { second } else { first }
+    if rank(lits[first], trail) < rank(lits[second], trail) {
+        second
+    } else {
+        first
+    }
 }

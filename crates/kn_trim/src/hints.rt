@@ -96,7 +96,12 @@ fn apply(assumed: &mut Trail, hint: &Constraint) -> Result<Turn, NoMemory>
 }
 
 #[tactic(auto, using(crate::proofs::Noting::is_used_one, crate::proofs::Noting::is_used_none))]
-fn apply_guarded(assumed: &mut Trail, guard: Lit, bound: u64, lits: &[Lit]) -> Result<Turn, NoMemory>
+fn apply_guarded(
+    assumed: &mut Trail,
+    guard: Lit,
+    bound: u64,
+    lits: &[Lit],
+) -> Result<Turn, NoMemory>
     requires guard { IsKnown assumed.old.vars guard }
     requires known { AreKnown assumed.old.vars lits.now }
     ensures run { IfOk result (λ turn. Turns turn assumed.old.lits (after_guard assumed.old.lits guard bound lits.now) assumed.new.lits) }

@@ -23,6 +23,5 @@ pub use laws::{one_trimmed, trimmed_is_proof, used_hints_suffice};
 pub use text::TrimText;
 pub use trimming::{Trimmed, trim};
 
-
 #[cfg(test)]
 mod tests;

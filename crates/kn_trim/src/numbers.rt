@@ -29,7 +29,9 @@ impl Numbers {
     pub fn none(alloc: Global) -> Result<Numbers, NoMemory>
         ensures { IfOk result (λ n. n ≡ []) }
     {
-        Ok(Numbers { table: vec![in alloc; 0]? })
+        Ok(Numbers {
+            table: vec![in alloc; 0]?,
+        })
     }
 
     /// One number more, which is kept or not. Fails where memory is wanting, and nothing changes then.

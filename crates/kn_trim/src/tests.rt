@@ -145,16 +145,8 @@ fn what_is_kept_is_numbered_anew(rt: HostRuntime) -> Result<(), Fail> {
             "p kpf 3 6\nr 1 0 4 5 3 0\nr 0 7 1 2 6 0\n",
         ),
         // a guard that has no value yet, one that is true, and one that is refuted
-        (
-            &h,
-            "p kpf 3 3\nr 0 1 3 2 1 0\n",
-            "p kpf 3 3\nr 0 3 2 1 0\n",
-        ),
-        (
-            &h,
-            "p kpf 3 3\nr 0 2 1 1 3 0\n",
-            "p kpf 3 3\nr 0 2 1 3 0\n",
-        ),
+        (&h, "p kpf 3 3\nr 0 1 3 2 1 0\n", "p kpf 3 3\nr 0 3 2 1 0\n"),
+        (&h, "p kpf 3 3\nr 0 2 1 1 3 0\n", "p kpf 3 3\nr 0 2 1 3 0\n"),
     ];
     for (formula, proof, want) in cases {
         assert!(rt; gives(rt.alloc(), formula, proof, want)?, "{proof}");

@@ -12,4 +12,4 @@ returns-else-left-bound-2-clause-means c =
     let left = c.count_open-left.ensures ∙ ap (open_places trail) c.lits.ensures in
     let undecided : is_undecided trail c.args.c.now.guard ≡ false = ap (is_undecided trail) (sym c.guard.ensures) ∙ sym c.is_undecided.ensures ∙ c.if-is_undecided.false in
     survey_forces trail c.args.c.now (λ s. (let t = c.is_satisfied.ensures.1 s in let f = c.if-is_satisfied.false in absurd cc))
-      (omega (arith, left, c.if-left-bound.false, c.bound.ensures)) false undecided (inr (refl, omega (arith, left, c.if-left-bound.false, c.bound.ensures, c.if-left-bound-2.false, c.bound-2.ensures)))
+    (omega (arith, left, c.if-left-bound.false, c.bound.ensures)) false undecided (inr (refl, omega (arith, left, c.if-left-bound.false, c.bound.ensures, c.if-left-bound-2.false, c.bound-2.ensures)))

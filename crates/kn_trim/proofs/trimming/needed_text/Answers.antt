@@ -11,7 +11,7 @@ kept_text-requires-clause-needed c =
 
 pub returns-clause-trimmed : goal.returns-clause-trimmed
 returns-clause-trimmed c =
-    let needed : AreNeeded c.args.f.now c.deref-2.result.now c.deref-3.result.now = 
+    let needed : AreNeeded c.args.f.now c.deref-2.result.now c.deref-3.result.now =
     needed-own c.args.f.now c.args.bytes.now c.in_ok-lean.lean.lines.items c.deref.result.now c.deref-2.result.now c.in_ok-lean.lean.variables c.in_ok-lean.lean.ids c.in_ok-own.own.items c.deref-3.result.now
     c.in_ok-lean.ensures c.deref.ensures.value c.deref-2.ensures.value c.in_ok-own.ensures c.deref-3.ensures.value in
     trimmed-by c.args.f.now c.args.bytes.now c.new.result c.in_ok-lean.lean.lines.items c.deref-2.result.now c.in_ok-lean.lean.variables c.in_ok-lean.lean.ids c.deref-3.result.now c.in_ok-lean.ensures c.deref-2.ensures.value needed (c.new.ensures ∙ c.in_ok-text.ensures.text)

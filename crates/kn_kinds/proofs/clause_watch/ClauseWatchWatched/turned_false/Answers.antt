@@ -39,4 +39,4 @@ returns-in-None-clause-means c =
     let rest = subst (λ (x : List Literal). (at : ℕ) → at < length x → at ≢ c.args.place → at ≢ other.0 → is_open trail (lit_at x at) ≡ false) c.lits.ensures c.in-None.ensures.none in
     let only = only_open trail w.clause c.args.place other.0 c.requires.is_false (own_place w.clause c.args.place w.is_clause c.requires.within) rest in
     subst (λ (v : Visit). IsTurn trail w.clause (either_place w.first w.second) (either_place w.first w.second) c.args.place v) (sym c.last_visit-last.ensures)
-      (visit_last trail w.clause (either_place w.first w.second) c.args.place other.0 other.1 w.is_clause only c.other_watch-other.ensures.lit)
+    (visit_last trail w.clause (either_place w.first w.second) c.args.place other.0 other.1 w.is_clause only c.other_watch-other.ensures.lit)
