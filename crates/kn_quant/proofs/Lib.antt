@@ -1,4 +1,5 @@
 pub mod SettleLemmas
+pub mod LeftLemmas
 pub mod ProgressLemmas
 pub mod JoinedLemmas
 pub mod OrderLemmas

@@ -1,0 +1,5 @@
+mod Ranks
+mod Surveys
+mod Marking
+mod Klauses
+mod Clauses

@@ -1,0 +1,8 @@
+use Rattle.std.proofs.Common.{◌≡◌, ◌≢◌, ◌≤◌, ◌<◌, ℕ, false}
+use Rattle.kn_logic.specs.Propagation.{is_open}
+use Rattle.kn_watch.specs.Trails.{literals}
+use Rattle.kn_watch.specs.Watches.{lit_at}
+use Rattle.kn_kinds.proofs.clause_watch.open_in.Given as goal
+
+abbrev pub invariant-loop-place : goal.invariant-loop-place
+invariant-loop-place l = (q : ℕ) → l.from ≤ q → q < l.place → q ≢ l.other → is_open (literals l.trail.made) (lit_at l.lits q) ≡ false
