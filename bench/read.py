@@ -1,5 +1,6 @@
 """Measures how formulas are read: `knf check` with an empty proof, over CNF files of 1, 10 and 100 MB of
-random clauses with three literals, files of one long clause, and KNF files with klauses."""
+random clauses with three literals, files of one long clause, KNF files with klauses, and one of klauses whose
+variables collide in a hash table with a fixed seed."""
 
 import random
 
@@ -41,6 +42,22 @@ def klauses(size):
         yield line
 
 
+def folded(variable):
+    """The hash of a number by the kit's fast hasher, whose seed is fixed."""
+    product = (0x243F6A8885A308D3 ^ variable) * (0x9E3779B97F4A7C15 ^ 16)
+    state = (product ^ product >> 64) % 2**64
+    return (state ^ state >> 32) % 2**32
+
+
+def colliding_klauses(count=10, literals=100_000):
+    """Klauses over the variables whose hashes begin in the first groups of a table of 2^14."""
+    variables = sorted(range(1, 1_000_001), key=lambda v: folded(v) % 2**14)[:literals]
+    line = b"k 1 " + b" ".join(b"%d" % v for v in variables) + b" 0\n"
+    yield b"p knf 1000000 %d\n" % count
+    for _ in range(count):
+        yield line
+
+
 def empty_proof():
     return [b""]
 
@@ -54,6 +71,9 @@ def main():
                 (f"{size // 1_000_000} MB", [("f.cnf", make(size)), ("p.kpf", empty_proof())], words)
                 for size in sizes
             ], folder, b"c line 0 cause 9")
+        table("ten klauses of 100,000 literals that collide", [
+            ("6 MB", [("f.cnf", colliding_klauses()), ("p.kpf", empty_proof())], words)
+        ], folder, b"c line 0 cause 9")
 
 
 if __name__ == "__main__":

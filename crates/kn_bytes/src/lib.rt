@@ -8,7 +8,7 @@
 //!
 //! What a call does to a source or a sink is defined in `specs/Outside.antt`, what one in memory holds in
 //! `specs/Memory.antt`, what the others count in `specs/System.antt`, and what `read_all` took in
-//! `specs/ReadAll.antt`. `proofs/Joined.antt` has lemmas on two calls in a row.
+//! `specs/ReadAll.antt`. `proofs/Public.antt` has lemmas on two calls in a row, for the crates above.
 #![tactic(auto)]
 
 mod file_sink;

@@ -7,3 +7,4 @@ pub mod RowTruth
 pub mod BoundTruth
 pub mod Models
 pub mod Numbered
+pub mod Public

@@ -6,6 +6,10 @@ use Rattle.kn_logic.specs.Literals.{Literal, negated}
 use Rattle.kn_logic.specs.Constraints.{Bounded, clause}
 use Rattle.kn_logic.specs.Formulas.{Problem}
 
+-- the most variables that a formula of clauses may have
+abbrev pub most_counted : ℕ
+most_counted = 10000000
+
 -- the numbers from the first on, so many
 abbrev pub counting : ℕ → ℕ → List ℕ
 counting first zero = []

@@ -3,7 +3,7 @@ ghost use Rattle.std.specs.List.{AllByRecursion};
 ghost use Rattle.kn_logic.specs.Literals.{AreKnown};
 ghost use Rattle.kn_logic.specs.Constraints.{is_clause, IsWithin, Fits};
 ghost use Rattle.kn_logic.specs.Formulas.{Satisfies};
-ghost use Rattle.kn_counter.specs.Counters.{further_of, further, all_further, bound_clauses, clauses_of, all_clauses, counted};
+ghost use Rattle.kn_counter.specs.Counters.{further_of, further, all_further, bound_clauses, clauses_of, all_clauses, counted, most_counted};
 ghost use Rattle.kn_counter.specs.Rows.{with_more, with_clauses};
 ghost use Rattle.kn_counter.specs.Sizes.{IfTooLarge};
 
@@ -22,17 +22,17 @@ pub const MAX_COUNTED: u64 = 10_000_000;
 /// each model of the formula, with some values for the further variables, is one of the clauses, and each
 /// model of the clauses, cut to the formula's variables, is one of the formula. The formula has at most
 /// 1,000,000 variables and 10,000,000 constraints. An error exactly where the clauses need more variables
-/// than `MAX_COUNTED`, which is found before the first is made, or where memory is wanting. The time is in
+/// than `MAX_COUNTED`, which is found before the first is made, or where memory is short. The time is in
 /// proportion to the literals that are read and written.
 pub fn counted(alloc: Global, f: &Formula) -> Result<Formula, CountError>
     requires vars { f.now.vars ≤ 1000000 }
     requires constraints { length f.now.constraints ≤ 10000000 }
     ensures clauses { IfOk result (λ g. g ≡ counted f.now) }
-    ensures within { IfOk result (λ g. g.vars ≤ MAX_COUNTED) }
+    ensures within { IfOk result (λ g. g.vars ≤ most_counted) }
     ensures all { IfOk result (λ g. AllByRecursion (λ c. is_clause c ≡ true) g.constraints) }
     ensures extended { IfOk result (λ g. (values : List Bool) → Satisfies values f.now → (more : List Bool) × Satisfies (values ++ more) g) }
     ensures cut { IfOk result (λ g. (values : List Bool) → Satisfies values g → Satisfies (take f.now.vars values) f.now) }
-    ensures large { IfErr result (λ e. IfTooLarge e (λ vars. (MAX_COUNTED < (counted f.now).vars) × (vars ≡ min (counted f.now).vars (2 ^ 64 - 1)))) }
+    ensures large { IfErr result (λ e. IfTooLarge e (λ vars. (most_counted < (counted f.now).vars) × (vars ≡ min (counted f.now).vars (2 ^ 64 - 1)))) }
 {
     let vars = needed_vars(f);
     if vars > MAX_COUNTED {

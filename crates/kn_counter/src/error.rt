@@ -9,7 +9,7 @@ pub enum CountError {
     /// The clauses would need so many variables, more than `MAX_COUNTED`; 2^64 - 1 stands for all
     /// numbers from there on.
     TooLarge { vars: u64 },
-    /// Want of memory.
+    /// Memory is short.
     Memory,
 }
 

@@ -5,7 +5,7 @@ use Rattle.std.proofs.lemmas.Bool.{eq-eqb, ne_eqb, cond-true, cond-false, cases_
 use Rattle.kn_diagram.specs.Diagrams.{Table, IsNode, function_of, IsTable, depth_in}
 use Rattle.kn_diagram.specs.Widths.{reached_below, width_at}
 use Rattle.kn_diagram.specs.Wide.{remaining, DependsOn, Ignores}
-use Rattle.kn_diagram.proofs.NodeLemmas.{slice_index-depth_in}
+use Rattle.kn_diagram.proofs.NodeLemmas.{slice_index-depth_in, depth_in-slice_index}
 use Rattle.kn_diagram.proofs.CountLemmas.{is_counted}
 use Rattle.kn_diagram.proofs.WideLemmas.{equal-or-not, down, leads, node-depends, Reaches, Ways, ways-of, way-finds, way_of, length-way_of, way_of-at}
 
@@ -117,3 +117,15 @@ unreached-ignores d from variable ok h within none v b = both b (v variable) ref
     both false false e = own false e
     both true false e = one ∙ own false e
     both false true e = sym one ∙ own true e
+
+-- the same, of the variables at depths
+pub depth-depends : (d : Table) (from depth level : ℕ) → IsTable d → IsNode d from → depth < length d.order → level ≡ slice_index d.order depth → 1 ≤ width_at d from depth
+    → (depth_in d.order level ≡ depth) × DependsOn (function_of d from) level
+depth-depends d from depth level ok h within is some =
+    let at : depth_in d.order level ≡ depth = ap (depth_in d.order) is ∙ depth_in-slice_index d.order depth ok.order within in
+    (at, reached-depends d from level ok h (omega (arith, at)) (omega (arith, some, ap (width_at d from) at)))
+
+pub depth-ignores : (d : Table) (from depth : ℕ) → IsTable d → IsNode d from → depth < length d.order → width_at d from depth ≡ 0 → Ignores (function_of d from) (slice_index d.order depth)
+depth-ignores d from depth ok h within none =
+    let at = depth_in-slice_index d.order depth ok.order within in
+    unreached-ignores d from (slice_index d.order depth) ok h (omega (arith, at)) (ap (width_at d from) at ∙ none)

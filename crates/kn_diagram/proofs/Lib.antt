@@ -13,5 +13,7 @@ pub mod WayLemmas
 pub mod WideLemmas
 pub mod DependLemmas
 pub mod FewLemmas
+pub mod PartLemmas
+pub mod CensusLemmas
 pub mod TestLemmas
 pub mod GridLemmas

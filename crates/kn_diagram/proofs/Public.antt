@@ -4,3 +4,4 @@ pub use Rattle.kn_diagram.proofs.NodeLemmas.{depth_in-slice_index, slice_index-d
 pub use Rattle.kn_diagram.proofs.ChildLemmas.{is-branch, split-at, above-ignored, high-function, low-function, high-is, low-is, not_above}
 pub use Rattle.kn_diagram.proofs.JoinLemmas.{IsRight-kept, IsExplained-kept, AreExplained-kept, AreExplained-more, found-right, found-more, found-front, found-other, found-own, has_pair-more}
 pub use Rattle.kn_diagram.proofs.FewLemmas.{few-narrow}
+pub use Rattle.kn_diagram.proofs.PartLemmas.{from_depth, from_depth-own, from_depth-other, left-at, left-down, left-whole, left-same, parts-kept, if-wide}

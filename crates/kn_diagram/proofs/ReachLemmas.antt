@@ -38,7 +38,7 @@ apart-last : (x node : ℕ) (ns : List ℕ) → (x == node) ≡ false → AllByR
 apart-last x node [] e a = (e, tt)
 apart-last x node (y ∷ ns) e a = (a.0, apart-last x node ns e a.1)
 
-distinct-last : (node : ℕ) (ns : List ℕ) → is_member nat_eq ns node ≡ false → IsDistinct nat_eq ns → IsDistinct nat_eq (ns ++ node ∷ [])
+pub distinct-last : (node : ℕ) (ns : List ℕ) → is_member nat_eq ns node ≡ false → IsDistinct nat_eq ns → IsDistinct nat_eq (ns ++ node ∷ [])
 unfolding IsDistinct
 distinct-last node [] m d = (tt, tt)
 distinct-last node (x ∷ ns) m d =

@@ -1,5 +1,5 @@
 -- Where a function is wide: too many different functions remain of it. Said by functions alone.
-use Rattle.std.specs.Prelude.{ℕ, ◌≡◌, ◌<◌, ◌==◌, Bool, true, false, if◌then◌else◌, List, [], ◌∷◌, length, map, nat_lt, slice_index_or}
+use Rattle.std.specs.Prelude.{ℕ, ◌≡◌, ◌<◌, ◌≤◌, ◌==◌, Bool, true, false, if◌then◌else◌, List, [], ◌∷◌, length, map, nat_lt, slice_index_or}
 use Rattle.std.specs.List.{AllByRecursion}
 use Rattle.kn_diagram.specs.declared.error.DiagramError.{DiagramError}
 use Rattle.kn_diagram.specs.declared.error.DiagramError.TheVariants.{Wide, Memory}
@@ -9,6 +9,12 @@ use Rattle.kn_diagram.specs.Diagrams.{depth_in}
 -- This is what remains of a function once the variables above have these values.
 abbrev pub remaining : List ℕ → ((ℕ → Bool) → Bool) → List Bool → (ℕ → Bool) → Bool
 remaining order f way v = f (λ x. if nat_lt (depth_in order x) (length way) then slice_index_or way (depth_in order x) false else v x)
+
+-- A part is left of a function at a depth: some way that goes no further down leaves it.
+pub record IsLeft (order : List ℕ) (whole part : (ℕ → Bool) → Bool) (depth : ℕ) : Type 0 where
+  pub way : List Bool
+  pub short : length way ≤ depth
+  pub function : (v : ℕ → Bool) → part v ≡ remaining order whole way v
 
 -- Two functions differ at some values.
 abbrev pub Differ : ((ℕ → Bool) → Bool) → ((ℕ → Bool) → Bool) → Type 0

@@ -1,15 +1,18 @@
-ghost use Rattle.std.specs.Prelude.{ℕ, ◌≡◌, ◌+◌, ◌<◌, ◌≤◌, ◌&&◌, ◌||◌, ◌↔◌, min, Bool, true, false, [], length, slice_index, nat_eq, if◌then◌else◌, OnOk, OnErr, IfOk, IfErr, IfSome, is_none, nat_lt};
+ghost use Rattle.std.specs.Prelude.{ℕ, ◌≡◌, ◌+◌, ◌<◌, ◌≤◌, ◌&&◌, ◌||◌, ◌↔◌, min, Bool, true, false, [], length, slice_index, nat_eq, if◌then◌else◌, OnOk, OnErr, IfOk, IfErr, IfSome, IfNone, is_none, nat_lt};
 ghost use Rattle.std.specs.List.{IsDistinct, AllByRecursion, list_any};
 ghost use Rattle.kn_logic.specs.Constraints.{is_clause};
 ghost use Rattle.kn_logic.specs.Assignments.{value_of};
 ghost use Rattle.kn_diagram.specs.Widths.{IsWidest};
 ghost use Rattle.kn_diagram.specs.Wide.{IfWide, IsWideAt, IsWide, DependsOn, Ignores};
+ghost use Rattle.kn_diagram.specs.Censuses.{StayParts, WouldBeWide};
 ghost use Rattle.kn_diagram.specs.Traces.{connective, AreExplained, Gains, IsRight, Explains};
 ghost use Rattle.kn_diagram.specs.Diagrams.{IsNode, function_of, depth_of, depth_in, is_true_by, asks, IsBranch, IsCanonical, HasNodes, IsTable, IsSplit, IsMade, Keeps};
 
+use crate::census::Census;
 use crate::joint::{Joint, decided};
 use crate::memo::Memo;
 use crate::rows::Rows;
+use crate::width::NARROW;
 use crate::{DiagramError, Node, Trace, width};
 use kn_logic::{Assignment, Constraint, Lit, NoMemory};
 use std::alloc::{AllocError, Global};
@@ -62,6 +65,26 @@ impl Diagrams {
     {
         let depth = depth_in(&self.order, var);
         self.make_at(depth, high, low)
+    }
+
+    /// "If the variable at this depth of the order then `high`, else `low`."
+    pub fn make_at(&mut self, depth: usize, high: Node, low: Node) -> Result<Node, NoMemory>
+        requires high_there { IsNode self.old high }
+        requires low_there { IsNode self.old low }
+        requires within { depth < length self.old.order }
+        requires above_high { depth < depth_of self.old high }
+        requires above_low { depth < depth_of self.old low }
+        ensures kept { Keeps self.old self.new }
+        ensures made { IfOk result (λ w. IsMade self.old self.new depth high low w) }
+    {
+        if high == low {
+            return Ok(high);
+        }
+        if self.rows.len() >= MOST {
+            return Err(AllocError);
+        }
+        let place = self.rows.place_of(depth, high.number(), low.number())?;
+        Ok(Node::new(place + 2))
     }
 
     /// The function of a clause over variables of the order: some literal is true.
@@ -117,15 +140,42 @@ impl Diagrams {
         self.traced(Joint::Or, f, g, trace)
     }
 
-    /// The disjunction of both functions, be it wide or not, by way of the results that were noted before.
-    pub fn or_by(&mut self, f: Node, g: Node, memo: &mut Memo) -> Result<Node, NoMemory>
+    /// The disjunction of both functions, as a part of an operation: by way of the results that were noted
+    /// before, and counting each result. `Wide` only where the function is wide of which all that was
+    /// counted, and this disjunction, are parts (`specs/Censuses.antt`).
+    pub fn or_by(
+        &mut self,
+        f: Node,
+        g: Node,
+        memo: &mut Memo,
+        census: &mut Census,
+    ) -> Result<Node, DiagramError>
         requires f_there { IsNode self.old f }
         requires g_there { IsNode self.old g }
         requires explained { AreExplained (λ a b. a || b) self.old [] memo.old }
         ensures kept { Keeps self.old self.new }
         ensures joined { IfOk result (λ w. Gains (λ a b. a || b) self.new memo.old memo.new f g w) }
+        ensures parts { OnOk result (StayParts self.old self.new census.old census.new (λ v. function_of self.old f v || function_of self.old g v) (min (depth_of self.old f) (depth_of self.old g))) }
+        ensures wide { IfErr result (λ e. IfWide e (WouldBeWide self.old census.old (λ v. function_of self.old f v || function_of self.old g v) (min (depth_of self.old f) (depth_of self.old g)))) }
     {
-        self.join(Joint::Or, f, g, memo)
+        self.join(Joint::Or, f, g, memo, census)
+    }
+
+    /// Counts a result of an operation. `Wide` where more than 256 of its depth were counted: then the
+    /// function is wide of which they all are parts (`specs/Censuses.antt`).
+    pub fn count_result(&self, w: Node, census: &mut Census) -> Result<(), DiagramError>
+        requires { IsNode self.now w }
+        ensures parts { OnOk result (StayParts self.now self.now census.old census.new (function_of self.now w) (depth_of self.now w)) }
+        ensures wide { IfErr result (λ e. IfWide e (WouldBeWide self.now census.old (function_of self.now w) (depth_of self.now w))) }
+    {
+        let Some((level, _, _)) = self.parts(w) else {
+            return Ok(());
+        };
+        let count = census.add(self.depth(w), w)?;
+        if count > NARROW {
+            return Err(DiagramError::Wide { level });
+        }
+        Ok(())
     }
 
     /// The variable of a node, and its nodes for where the variable is true and where it is false;
@@ -164,16 +214,21 @@ impl Diagrams {
         width::widest(*self.order.allocator(), self, f)
     }
 
-    /// Whether the value of a variable decides the function's, at some values of the other variables.
-    pub fn depends(&self, f: Node, var: u64) -> Result<bool, NoMemory>
+    /// The variable that stands furthest down the order, but above this depth, of those whose value decides
+    /// the function's at some values of the others. None where there is none above the depth.
+    pub fn deepest_above(&self, f: Node, depth: usize) -> Result<Option<u64>, NoMemory>
         requires there { IsNode self.now f }
-        requires within { depth_in self.now.order var < length self.now.order }
-        ensures yes { IfOk result (λ b. b ≡ true → DependsOn (function_of self.now f) var) }
-        ensures not { IfOk result (λ b. b ≡ false → Ignores (function_of self.now f) var) }
+        requires within { depth ≤ length self.now.order }
+        ensures above { IfOk result (λ r. IfSome r (λ x. depth_in self.now.order x < depth)) }
+        ensures depends { IfOk result (λ r. IfSome r (λ x. DependsOn (function_of self.now f) x)) }
+        ensures deepest { IfOk result (λ r. IfSome r (λ x. (k : ℕ) → depth_in self.now.order x < k → k < depth → Ignores (function_of self.now f) (slice_index self.now.order k))) }
+        ensures none { IfOk result (λ r. IfNone r ((k : ℕ) → k < depth → Ignores (function_of self.now f) (slice_index self.now.order k))) }
     {
         let widths = width::widths(*self.order.allocator(), self, f)?;
-        let depth = depth_in(&self.order, var);
-        Ok(widths[depth] > 0)
+        let Some(place) = width::last_used(&widths, depth) else {
+            return Ok(None);
+        };
+        Ok(Some(self.order[place]))
     }
 
     /// How far down the order a variable stands, the top having 0; the length of the order where it is
@@ -266,39 +321,30 @@ impl Diagrams {
         }
     }
 
-    // "If the variable at this depth, then the high node, else the low one."
-    fn make_at(&mut self, depth: usize, high: Node, low: Node) -> Result<Node, NoMemory>
-        requires high_there { IsNode self.old high }
-        requires low_there { IsNode self.old low }
-        requires within { depth < length self.old.order }
-        requires above_high { depth < depth_of self.old high }
-        requires above_low { depth < depth_of self.old low }
-        ensures kept { Keeps self.old self.new }
-        ensures made { IfOk result (λ w. IsMade self.old self.new depth high low w) }
-    {
-        if high == low {
-            return Ok(high);
-        }
-        if self.rows.len() >= MOST {
-            return Err(AllocError);
-        }
-        let place = self.rows.place_of(depth, high.number(), low.number())?;
-        Ok(Node::new(place + 2))
-    }
-
-    // The node for both functions joined, by way of the results that were noted before.
-    fn join(&mut self, joint: Joint, f: Node, g: Node, memo: &mut Memo) -> Result<Node, NoMemory>
+    // The node for both functions joined, by way of the results that were noted before, and counting each
+    // result.
+    fn join(
+        &mut self,
+        joint: Joint,
+        f: Node,
+        g: Node,
+        memo: &mut Memo,
+        census: &mut Census,
+    ) -> Result<Node, DiagramError>
         requires f_there { IsNode self.old f }
         requires g_there { IsNode self.old g }
         requires explained { AreExplained (connective joint) self.old [] memo.old }
         ensures kept { Keeps self.old self.new }
         ensures joined { IfOk result (λ w. Gains (connective joint) self.new memo.old memo.new f g w) }
+        ensures parts { OnOk result (StayParts self.old self.new census.old census.new (λ v. connective joint (function_of self.old f v) (function_of self.old g v)) (min (depth_of self.old f) (depth_of self.old g))) }
+        ensures wide { IfErr result (λ e. IfWide e (WouldBeWide self.old census.old (λ v. connective joint (function_of self.old f v) (function_of self.old g v)) (min (depth_of self.old f) (depth_of self.old g)))) }
     {
         if let Some(w) = memo.get(f, g) {
             return Ok(w);
         }
         if let Some(w) = decided(joint, f, g) {
             memo.insert(f, g, w)?;
+            self.count_result(w, census)?;
             return Ok(w);
         }
         let f_depth = self.depth(f);
@@ -306,10 +352,11 @@ impl Diagrams {
         let depth = f_depth.min(g_depth);
         let (f_high, f_low) = self.halves(f, depth);
         let (g_high, g_low) = self.halves(g, depth);
-        let high = self.join(joint, f_high, g_high, memo)?;
-        let low = self.join(joint, f_low, g_low, memo)?;
+        let high = self.join(joint, f_high, g_high, memo, census)?;
+        let low = self.join(joint, f_low, g_low, memo, census)?;
         let w = self.make_at(depth, high, low)?;
         memo.insert(f, g, w)?;
+        self.count_result(w, census)?;
         Ok(w)
     }
 
@@ -330,8 +377,10 @@ impl Diagrams {
         ensures wide { IfErr result (λ e. IfWide e (λ level. IsWideAt self.old.order (λ v. connective joint (function_of self.old f v) (function_of self.old g v)) level)) }
         ensures narrow { IfOk result (λ w. IsWide self.new.order (function_of self.new w) → ⊥) }
     {
-        let mut memo = Memo::new(*self.order.allocator());
-        let w = self.join(joint, f, g, &mut memo)?;
+        let alloc = *self.order.allocator();
+        let mut memo = Memo::new(alloc);
+        let mut census = Census::new(alloc);
+        let w = self.join(joint, f, g, &mut memo, &mut census)?;
         self.refuse_wide(w)?;
         memo.write(trace)?;
         Ok(w)

@@ -4,9 +4,12 @@
 //! order they stand, `depth_of`, and by `IsNode`, which each node handed in meets. Two nodes of one
 //! `Diagrams` are equal exactly where their functions are: `nodes` hands this out. What a trace holds is
 //! in `specs/Traces.antt`, what `widest` counts in `specs/Widths.antt`, and where a function is wide in
-//! `specs/Wide.antt`: `and` and `or` refuse such a result, and no other.
+//! `specs/Wide.antt`: `and` and `or` refuse such a result, and no other. An operation above that is made of
+//! several, as a quantification, notes its results in a `Memo` and counts them in a `Census`
+//! (`specs/Censuses.antt`), so that it too stops once its result must be wide.
 #![tactic(auto)]
 
+mod census;
 mod diagrams;
 mod error;
 #[cfg(test)]
@@ -22,6 +25,7 @@ mod tests;
 mod trace;
 mod width;
 
+pub use census::Census;
 pub use diagrams::Diagrams;
 pub use error::DiagramError;
 pub use laws::{few_variables_are_narrow, found_results_are_right, results_have_their_halves};

@@ -9,7 +9,7 @@ use kn_logic::NoMemory;
 use std::alloc::Global;
 
 /// A function is wide where more nodes of one variable than this are reached.
-const NARROW: u64 = 256;
+pub(crate) const NARROW: u64 = 256;
 
 /// The greatest number of different nodes of one variable that are reached from a node.
 pub(crate) fn widest(alloc: Global, d: &Diagrams, f: Node) -> Result<u64, NoMemory>
@@ -44,6 +44,23 @@ pub(crate) fn widths(alloc: Global, d: &Diagrams, f: Node) -> Result<Vec<u64>, N
 {
     let set = reached(alloc, d, f)?;
     by_depth(alloc, d, set.numbers())
+}
+
+/// The last place before an end whose number is not 0.
+pub(crate) fn last_used(widths: &[u64], end: usize) -> Option<usize>
+    requires { end ≤ length widths.now }
+    ensures some { IfSome result (λ k. (k < end) × (1 ≤ slice_index widths.now k)) }
+    ensures last { IfSome result (λ k. (j : ℕ) → k < j → j < end → slice_index widths.now j ≡ 0) }
+    ensures none { IfNone result ((j : ℕ) → j < end → slice_index widths.now j ≡ 0) }
+{
+    let mut place = end;
+    while place > 0 {
+        place -= 1;
+        if widths[place] > 0 {
+            return Some(place);
+        }
+    }
+    None
 }
 
 // The nodes that are reached: those below a node of the set join it, until each has had its turn.

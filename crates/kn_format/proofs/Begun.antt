@@ -1,7 +1,8 @@
 -- What is kept of a klause where a literal joins it.
-use Rattle.std.proofs.Common.{◌≡◌, ℕ, ◌==◌, Bool, true, false, ◌||◌, cond, not, List, [], ◌∷◌, ◌++◌, Option, refl, sym, ap, subst, ◌∙◌, append_assoc, arith}
+use Rattle.std.proofs.Common.{is_eq, nat_cmp, ◌≡◌, ℕ, ◌==◌, Bool, true, false, ◌||◌, cond, not, List, [], ◌∷◌, ◌++◌, Option, refl, sym, ap, subst, ◌∙◌, append_assoc, arith}
 use Rattle.std.proofs.lemmas.List.Folds.{list_any-append}
 use Rattle.std.specs.Prelude.{option_to_list, nat_eq}
+use Rattle.std.specs.Cmp.{unsigned_tied}
 use Rattle.kn_logic.specs.Literals.{Literal, IsKnown, AreKnown, AreDifferent, names}
 use Rattle.kn_logic.specs.Constraints.{Bounded, named}
 use Rattle.kn_format.specs.declared.place.Place.{Place}
@@ -79,3 +80,7 @@ keeps_added vars place guard bound lits more l n old new at kept known var apart
     let list : Keeps vars Klause (begun_of guard bound more) new =
     subst (λ (ls : List Literal). Keeps vars Klause (begun_of guard bound ls) new) (sym joined) there in
     subst (λ (p : Place). Keeps vars p (begun_of guard bound more) new) (sym at) list
+
+-- a set that is kept in order, to which a variable was added
+pub joined : (n : ℕ) (old new : ℕ → Bool) → ((v : ℕ) → new v ≡ cond (is_eq (nat_cmp n v)) true (old v)) → (v : ℕ) → new v ≡ cond (nat_eq n v) true (old v)
+joined n old new added v = added v ∙ ap (λ b. cond b true (old v)) (unsigned_tied n v)

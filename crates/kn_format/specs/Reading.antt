@@ -1,4 +1,4 @@
--- What the reader does line by line, what its functions return, unless memory runs out, and what it keeps.
+-- What the reader does line by line, what its functions return, unless memory is short, and what it keeps.
 use Rattle.std.specs.Prelude.{ℕ, ◌≡◌, Bool, true, false, if◌then◌else◌, List, [], ◌∷◌, length, Result, Ok, Err}
 use Rattle.kn_logic.specs.Literals.{AreDifferent, names}
 use Rattle.kn_logic.specs.Constraints.{Bounded, IsWithin, is_clause, named}

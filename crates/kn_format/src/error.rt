@@ -29,7 +29,7 @@ pub struct Refusal {
 pub enum ReadError {
     /// The text spells no formula.
     Refused(Refusal),
-    /// Memory ran out.
+    /// Memory is short.
     Memory,
 }
 

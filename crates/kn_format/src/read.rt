@@ -81,7 +81,7 @@ fn read(alloc: Global, bytes: &[u8]) -> Result<Formula, ReadError>
     }
 }
 
-/// Reads a formula from a text of CNF or KNF. The errors are want of memory, and the first fault of a text
+/// Reads a formula from a text of CNF or KNF. The errors are short memory, and the first fault of a text
 /// that spells no formula.
 pub fn read_formula(alloc: Global, bytes: &[u8]) -> Result<Formula, ReadError>
     ensures found { IfOk result (λ f. Spells bytes.now f) }

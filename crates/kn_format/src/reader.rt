@@ -16,7 +16,7 @@ use crate::place::Place;
 use kn_logic::{Constraint, Formula, Lit, NoMemory};
 use kn_text::{first_word, is_end, literal, number};
 use std::alloc::Global;
-use std::collections::HashSet;
+use std::collections::BTreeSet;
 use std::marker::Model;
 use std::mem;
 
@@ -31,12 +31,12 @@ pub struct Reader {
     bound: u64,
     lits: Vec<Lit>,
     // the variables that the klause that is begun names
-    seen: HashSet<u64>,
+    seen: BTreeSet<u64>,
 }
 
 impl Model for Reader {
-    ghost use Rattle.std.specs.Prelude.{nat_eq};
-    ghost use Rattle.std.specs.HashSet.{contains};
+    ghost use Rattle.std.specs.Ordering.{nat_cmp};
+    ghost use Rattle.std.specs.BTreeSet.{contains};
     ghost use Rattle.kn_format.specs.Faults.{Reading};
     ghost use Rattle.kn_format.specs.Reading.{Keeps};
 
@@ -44,7 +44,7 @@ impl Model for Reader {
 
     ghost view = { λ r. record { format = r.format; count = r.count; formula = r.formula; place = r.place; begun = record { guard = r.guard; bound = r.bound; lits = r.lits.items } } };
 
-    ghost invariant = { λ r. Keeps r.formula.vars r.place (record { guard = r.guard; bound = r.bound; lits = r.lits.items }) (λ v. contains nat_eq r.seen v) };
+    ghost invariant = { λ r. Keeps r.formula.vars r.place (record { guard = r.guard; bound = r.bound; lits = r.lits.items }) (λ v. contains nat_cmp r.seen v) };
 }
 
 pub fn refused(line: u64, why: u8) -> ReadError
@@ -65,7 +65,7 @@ impl Reader {
             guard: None,
             bound: 0,
             lits: Vec::new(alloc),
-            seen: HashSet::new(alloc),
+            seen: BTreeSet::new(alloc),
         }
     }
 
@@ -119,7 +119,7 @@ impl Reader {
         self.guard = None;
         self.bound = 0;
         self.lits = Vec::new(alloc);
-        self.seen = HashSet::new(alloc);
+        self.seen = BTreeSet::new(alloc);
     }
 
     fn complete(&mut self) -> Result<(), NoMemory>
@@ -164,7 +164,7 @@ impl Reader {
         ensures { OnOk result (self.new ≡ record self.old { place = Bound; begun = guarded_klause lit 0 [] }) }
     {
         let alloc = *self.lits.allocator();
-        let mut seen = HashSet::new(alloc);
+        let mut seen = BTreeSet::new(alloc);
         seen.insert(lit.var())?;
         self.place = Place::Bound;
         self.guard = Some(lit);

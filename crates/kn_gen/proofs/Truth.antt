@@ -5,7 +5,7 @@ use Rattle.kn_logic.specs.Literals.{Literal, negated}
 use Rattle.kn_logic.specs.Assignments.{value_of, true_places}
 use Rattle.kn_logic.specs.Constraints.{Bounded, Holds}
 use Rattle.kn_logic.specs.Formulas.{IsFormula, IsUnsatisfiable}
-use Rattle.kn_counter.proofs.Models.{model-cut}
+use Rattle.kn_counter.proofs.Public.{model-cut}
 use Rattle.kn_gen.specs.Blocks.{literals_from, block, at_most, at_least, block_klauses, blocks, links, block_formula, generated}
 
 front : (P : Bounded → Type 0) (xs ys : List Bounded) → AllByRecursion P (xs ++ ys) → AllByRecursion P xs × AllByRecursion P ys

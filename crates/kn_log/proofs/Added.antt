@@ -2,7 +2,7 @@
 use Rattle.std.proofs.Common.{◌≡◌, ℕ, ◌+◌, true, false, List, [], ◌∷◌, ◌++◌, Option, Result, Ok, Err, refl, sym, ap, ◌∙◌, subst, append_assoc, arith}
 use Rattle.std.proofs.lemmas.List.{append-nil}
 use Rattle.kn_bytes.specs.Outside.{Got, GotPrefix}
-use Rattle.kn_bytes.proofs.Joined.{Got-nil, Got-append, GotPrefix-append}
+use Rattle.kn_bytes.proofs.Public.{Got-nil, Got-append, GotPrefix-append}
 use Rattle.kn_lines.specs.declared.line.Line.{Line}
 use Rattle.kn_rules.specs.States.{ProofState}
 use Rattle.kn_rules.specs.Steps.{step}
@@ -46,7 +46,7 @@ Adds-join a b old mid new w v u first next = record {
   whole = next.whole;
 }
 
--- one line, of which the sink has got a front
+-- one line, of which the sink has got a prefix
 pub Breaks-one : (line : Line) (old new : Logged) (w w' : Option (List ℕ)) → step old.state line ≡ Ok new.state → new.failed ≡ true → IsSpelled line → GotPrefix w w' (line_bytes line) → Breaks [] line old new w w'
 Breaks-one line old new w w' e failed h got = record {
   steps = (new.state, e, refl);
@@ -70,7 +70,7 @@ Breaks-join a b last old mid new w v u first next =
       failed = next.failed;
     }
 
--- a front of all the lines was written
+-- a prefix of all the lines was written
 pub Breaks-front : (lines : List Line) (last : Line) (old new : Logged) (w w' : Option (List ℕ)) → Breaks lines last old new w w' → GotPrefix w w' (lines_bytes (lines ++ last ∷ []))
 Breaks-front lines last old new w w' h =
     subst (λ (bytes : List ℕ). GotPrefix w w' bytes)

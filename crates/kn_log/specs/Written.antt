@@ -38,7 +38,7 @@ pub record Adds (lines : List Line) (old new : Logged) (w w' : Option (List ℕ)
   pub got : Got w w' (lines_bytes lines)
   pub whole : new.failed ≡ false
 
--- These lines were logged, and one more behind them, of which the sink has got a front. The log has failed.
+-- These lines were logged, and one more behind them, of which the sink has got a prefix. The log has failed.
 pub record Breaks (lines : List Line) (last : Line) (old new : Logged) (w w' : Option (List ℕ)) : Type 0 where
   pub steps : StepsBy old.state (lines ++ last ∷ []) new.state
   pub spelled : AreSpelled (lines ++ last ∷ [])

@@ -37,12 +37,12 @@ pub fn adding_joins()
 {}
 
 /// A law over the definitions, and no code: a line that was not written whole is added behind none and behind
-/// others, and the sink has got a front of all that was logged.
+/// others, and the sink has got a prefix of all that was logged.
 pub fn breaking_joins()
     ensures one { (line : Line) (old : Logged) (new : Logged) (w : Option (List ℕ)) (w' : Option (List ℕ)) →
         step old.state line ≡ Ok new.state → new.failed ≡ true → IsSpelled line → GotPrefix w w' (line_bytes line) → Breaks [] line old new w w' }
     ensures more { (a : List Line) (b : List Line) (last : Line) (old : Logged) (mid : Logged) (new : Logged) (w : Option (List ℕ)) (v : Option (List ℕ)) (u : Option (List ℕ)) →
         Adds a old mid w v → Breaks b last mid new v u → Breaks (a ++ b) last old new w u }
-    ensures front { (lines : List Line) (last : Line) (old : Logged) (new : Logged) (w : Option (List ℕ)) (w' : Option (List ℕ)) →
+    ensures prefix { (lines : List Line) (last : Line) (old : Logged) (new : Logged) (w : Option (List ℕ)) (w' : Option (List ℕ)) →
         Breaks lines last old new w w' → GotPrefix w w' (lines_bytes (lines ++ last ∷ [])) }
 {}

@@ -179,6 +179,11 @@ branch-above d u variable own high low v b less =
     each true = refl
     each false = refl
 
+-- a node whose depth is the place of a variable is a branch of it
+pub own-branch : (d : Table) (u x high low place own : ℕ) → IsBranch d u x high low → own ≡ depth_of d u → place ≡ own → IsBranch d u (slice_index d.order place) high low
+own-branch d u x high low place own b e f =
+    subst (λ z. IsBranch d u z high low) (b.variable_is ∙ ap (slice_index d.order) (sym (f ∙ e))) b
+
 -- a node of the variable, once its halves are joined
 pub settles-own : (d0 d1 : Table) (variable : ℕ) (ms halves more : List Met) (u own high low w : ℕ) → IsTable d0 → IsNode d0 u → IsBranch d0 u own high low
     → depth_of d0 u ≡ depth_in d0.order variable → AreAccounted d0 variable halves [] ms → found ms u u ≡ None

@@ -1,10 +1,11 @@
-ghost use Rattle.std.specs.Prelude.{ℕ, ◌≡◌, ◌<◌, ◌≤◌, ◌||◌, ◌++◌, Bool, [], length, OnOk, OnErr, IfOk, IfErr};
+ghost use Rattle.std.specs.Prelude.{ℕ, ◌≡◌, ◌<◌, ◌≤◌, ◌||◌, ◌++◌, Bool, [], ◌∷◌, None, length, slice_index, OnOk, OnErr, IfOk, IfErr};
 ghost use Rattle.kn_diagram.specs.Diagrams.{IsNode, IsBranch, Keeps, depth_in, depth_of, function_of};
-ghost use Rattle.kn_diagram.specs.Traces.{AreExplained};
+ghost use Rattle.kn_diagram.specs.Traces.{AreExplained, found};
+ghost use Rattle.kn_diagram.specs.Censuses.{StayParts, WouldBeWide};
 ghost use Rattle.kn_diagram.specs.Wide.{IfWide, IsWideAt, IsWide};
-ghost use Rattle.kn_quant.specs.Quantified.{some_value, AreAccounted, Quantifies, Settles};
+ghost use Rattle.kn_quant.specs.Quantified.{some_value, entry_of, AreAccounted, Quantifies, Settles};
 
-use kn_diagram::{DiagramError, Diagrams, Memo, Node, Trace};
+use kn_diagram::{Census, DiagramError, Diagrams, Memo, Node, Trace};
 use kn_logic::NoMemory;
 
 /// "For some value of `var`": the function that is true where `f` is true for some value of it. One
@@ -31,49 +32,70 @@ pub fn exists(
     let alloc = d.allocator();
     let mut memo = Memo::new(alloc);
     let mut joined = Memo::new(alloc);
+    let mut census = Census::new(alloc);
     let place = d.place(var);
-    let w = settle(d, f, var, place, &mut memo, &mut joined)?;
+    let w = settle(d, f, place, &mut memo, &mut joined, &mut census)?;
     d.refuse_wide(w)?;
     write(&memo, &joined, trace, halves)?;
     Ok(w)
 }
 
-// The node of "for some value of the variable, u", by way of the results that were noted before.
+// The node of "for some value of the variable at this place, u", by way of the results that were noted
+// before, and counting each result.
 fn settle(
     d: &mut Diagrams,
     u: Node,
-    var: u64,
     place: usize,
     memo: &mut Memo,
     joined: &mut Memo,
-) -> Result<Node, NoMemory>
+    census: &mut Census,
+) -> Result<Node, DiagramError>
     requires there { IsNode d.old u }
-    requires place { place ≡ depth_in d.old.order var }
     requires within { place < length d.old.order }
     requires explained { AreExplained (λ a b. a || b) d.old [] joined.old }
-    requires accounted { AreAccounted d.old var joined.old [] memo.old }
+    requires accounted { AreAccounted d.old (slice_index d.old.order place) joined.old [] memo.old }
     ensures kept { Keeps d.old d.new }
-    ensures settled { IfOk result (λ w. Settles d.new var memo.old memo.new joined.new u w) }
+    ensures settled { IfOk result (λ w. Settles d.new (slice_index d.old.order place) memo.old memo.new joined.new u w) }
+    ensures parts { OnOk result (StayParts d.old d.new census.old census.new (some_value (slice_index d.old.order place) (function_of d.old u)) (depth_of d.old u)) }
+    ensures wide { IfErr result (λ e. IfWide e (WouldBeWide d.old census.old (some_value (slice_index d.old.order place) (function_of d.old u)) (depth_of d.old u))) }
 {
     if let Some(w) = memo.get(u, u) {
         return Ok(w);
     }
     let own = d.depth(u);
     if place < own {
-        memo.insert(u, u, u)?;
+        note(d, u, u, memo, census)?;
         return Ok(u);
     }
-    let (above, high, low) = parts_of(d, u);
+    let (_, high, low) = parts_of(d, u);
     if place == own {
-        let w = d.or_by(high, low, joined)?;
-        memo.insert(u, u, w)?;
+        let w = d.or_by(high, low, joined, census)?;
+        note(d, u, w, memo, census)?;
         return Ok(w);
     }
-    let high = settle(d, high, var, place, memo, joined)?;
-    let low = settle(d, low, var, place, memo, joined)?;
-    let w = d.make(above, high, low)?;
-    memo.insert(u, u, w)?;
+    let high = settle(d, high, place, memo, joined, census)?;
+    let low = settle(d, low, place, memo, joined, census)?;
+    let w = d.make_at(own, high, low)?;
+    note(d, u, w, memo, census)?;
     Ok(w)
+}
+
+// Notes the result for a node that has none, and counts it.
+fn note(
+    d: &Diagrams,
+    u: Node,
+    w: Node,
+    memo: &mut Memo,
+    census: &mut Census,
+) -> Result<(), DiagramError>
+    requires there { IsNode d.now w }
+    requires absent { found memo.old u u ≡ None }
+    ensures noted { OnOk result (memo.new ≡ memo.old ++ entry_of u w ∷ []) }
+    ensures parts { OnOk result (StayParts d.now d.now census.old census.new (function_of d.now w) (depth_of d.now w)) }
+    ensures wide { IfErr result (λ e. IfWide e (WouldBeWide d.now census.old (function_of d.now w) (depth_of d.now w))) }
+{
+    memo.insert(u, u, w)?;
+    d.count_result(w, census)
 }
 
 // The variable of a node that is no constant, and its nodes for "true" and "false".

@@ -10,7 +10,7 @@ use Rattle.kn_lines.specs.declared.line.Arm.TheVariants as arm
 use Rattle.kn_rules.specs.declared.given.Given.{Given}
 use Rattle.kn_rules.specs.Steps.{with_arm, opposite, definition_clauses, by_definition}
 use Rattle.kn_rules.proofs.Nodes.{arm_value}
-use Rattle.kn_rules.specs.Sharing.{IsArmWithin}
+use Rattle.kn_rules.specs.States.{IsArmWithin}
 
 places-push : (test : Literal → Bool) (lits : List Literal) (l : Literal) → places test (lits ++ l ∷ []) ≡ places test lits + cond (test l) 1 0
 places-push test [] l = omega arith

@@ -1,8 +1,11 @@
 -- What it takes that all demands of a level stand.
-use Rattle.std.proofs.Common.{◌≡◌, ℕ, suc, ◌+◌, ◌==◌, ◌++◌, ◌&&◌, Bool, true, false, cond, List, [], ◌∷◌, length, drop, Option, None, Some, refl, sym, ap, ◌∙◌, subst, drop-cons, add-one, inl, inr, arith}
-use Rattle.std.specs.List.{list_all, list_any, slice_get}
-use Rattle.std.proofs.lemmas.Bool.{and_parts, or_cases, eqb-true}
-use Rattle.std.proofs.lemmas.Option.{slice_get_within, get_or_from_slice_get}
+use Rattle.std.proofs.Common.{Less, Equal, Greater, ◌≡◌, ℕ, suc, ◌+◌, ◌==◌, nat_lt, ◌++◌, ◌&&◌, Bool, true, false, cond, List, [], ◌∷◌, length, drop, Option, None, Some, Result, Ok, Err, IfOk, refl, sym, ap, ◌∙◌, subst, drop-cons, add-one, inl, inr, arith}
+use Rattle.std.specs.List.{list_all, slice_get}
+use Rattle.std.specs.Option.{is_none}
+use Rattle.std.specs.Ordering.{nat_cmp, is_eq}
+use Rattle.std.specs.BTreeMap.{BTreeMap, get, is_at}
+use Rattle.std.proofs.lemmas.Bool.{eqb-true, eqb-false, ltb-true, cond-true, cond-false}
+use Rattle.std.proofs.lemmas.Option.{slice_get_within, get_or_from_slice_get, same_Some}
 use Rattle.kn_logic.specs.Literals.{Literal}
 use Rattle.kn_lines.specs.declared.line.Arm.{Arm}
 use Rattle.kn_lines.specs.declared.line.Arm.TheVariants as arm
@@ -11,8 +14,8 @@ use Rattle.kn_counter.specs.declared.grid.Cell.{Cell}
 use Rattle.kn_counter.specs.declared.grid.Cell.TheVariants as cell
 use Rattle.kn_rules.specs.declared.definition.Definition.{Definition}
 use Rattle.kn_rules.specs.Grids.{splits, stands_as, led_to, stands_for}
-use Rattle.kn_rules.specs.Demands.{same_demand, arm_of, all_stand}
-use Rattle.indexmap.specs.IndexSet.{insert_key}
+use Rattle.kn_rules.specs.Demands.{arm_of, count_of, agrees, with_demand, IsIndexed, all_stand}
+use Rattle.kn_rules.proofs.OneCount.{one-count}
 
 -- tests joined by "and"
 pub and-assoc : (a b c : Bool) → (a && (b && c)) ≡ ((a && b) && c)
@@ -36,31 +39,88 @@ all-push : {X : Type 0} (p : X → Bool) (xs : List X) (x : X) → list_all p (x
 all-push p [] x = and-true (p x)
 all-push p (y ∷ xs) x = ap (λ b. p y && b) (all-push p xs x) ∙ and-assoc (p y) (list_all p xs) (p x)
 
--- one that is there already says nothing new
-all-there : {X : Type 0} (p : X → Bool) (same : X → Bool) (x : X) → ((y : X) → same y ≡ true → p y ≡ p x) → (xs : List X) → list_any same xs ≡ true → list_all p xs ≡ (list_all p xs && p x)
-all-there p same x h [] e = absurd cc
-all-there p same x h (y ∷ xs) e =
-    elim (or_cases (same y) (list_any same xs) e) [
-      | inl s ↦ (let same-test = h y s in subst (λ b. (p y && list_all p xs) ≡ ((p y && list_all p xs) && b)) same-test (and-again (p y) (list_all p xs)))
-      | inr t ↦ ap (λ b. p y && b) (all-there p same x h xs t) ∙ and-assoc (p y) (list_all p xs) (p x)
-    ]
-  where
-    and-again : (a b : Bool) → (a && b) ≡ ((a && b) && a)
-    and-again true true = refl
-    and-again true false = refl
-    and-again false b = refl
+-- what is demanded of a variable already says nothing new
+and-again : (a b : Bool) → (a && b) ≡ ((a && b) && a)
+and-again true true = refl
+and-again true false = refl
+and-again false b = refl
 
-same-stands : (definition : ℕ → Option Definition) (lits : List Literal) (a b : ℕ × ℕ) → same_demand a b ≡ true → stands_for definition lits b.1 (arm_of b.0) ≡ stands_for definition lits a.1 (arm_of a.0)
-same-stands definition lits a b e =
-    let parts = and_parts (a.0 == b.0) (a.1 == b.1) e in
-    ap (λ (v : ℕ). stands_for definition lits b.1 (arm_of v)) (sym (eqb-true a.0 b.0 parts.0)) ∙ ap (λ (j : ℕ). stands_for definition lits j (arm_of a.0)) (sym (eqb-true a.1 b.1 parts.1))
+stand-found : (definition : ℕ → Option Definition) (lits : List Literal) (d : ℕ × ℕ) (demands : List (ℕ × ℕ)) (variable count : ℕ) (t : Bool) → (d.0 == variable) ≡ t → cond t (Some d.1) (count_of demands variable) ≡ Some count
+    → (count_of demands variable ≡ Some count → all_stand definition lits demands ≡ (all_stand definition lits demands && stands_for definition lits count (arm_of variable)))
+    → all_stand definition lits (d ∷ demands) ≡ (all_stand definition lits (d ∷ demands) && stands_for definition lits count (arm_of variable))
+stand-found definition lits d demands variable count true t e more =
+    let stands : stands_for definition lits d.1 (arm_of d.0) ≡ stands_for definition lits count (arm_of variable) =
+    ap (λ (j : ℕ). stands_for definition lits j (arm_of d.0)) (same_Some d.1 count e) ∙ ap (λ (v : ℕ). stands_for definition lits count (arm_of v)) (eqb-true d.0 variable t) in
+    subst (λ b. (stands_for definition lits d.1 (arm_of d.0) && all_stand definition lits demands) ≡ ((stands_for definition lits d.1 (arm_of d.0) && all_stand definition lits demands) && b)) stands
+    (and-again (stands_for definition lits d.1 (arm_of d.0)) (all_stand definition lits demands))
+stand-found definition lits d demands variable count false t e more =
+    ap (λ b. stands_for definition lits d.1 (arm_of d.0) && b) (more e)
+    ∙ and-assoc (stands_for definition lits d.1 (arm_of d.0)) (all_stand definition lits demands) (stands_for definition lits count (arm_of variable))
 
-pub stand-insert : (definition : ℕ → Option Definition) (lits : List Literal) (demands : List (ℕ × ℕ)) (d : ℕ × ℕ) → all_stand definition lits (insert_key same_demand demands d) ≡ (all_stand definition lits demands && stands_for definition lits d.1 (arm_of d.0))
-stand-insert definition lits demands d = by (list_any (same_demand d) demands) refl
+stand-one : (definition : ℕ → Option Definition) (lits : List Literal) (demands : List (ℕ × ℕ)) (variable count : ℕ) → count_of demands variable ≡ Some count → all_stand definition lits demands ≡ (all_stand definition lits demands && stands_for definition lits count (arm_of variable))
+stand-one definition lits [] variable count e = absurd cc
+stand-one definition lits (d ∷ demands) variable count e =
+    stand-found definition lits d demands variable count (d.0 == variable) refl e (stand-one definition lits demands variable count)
+
+-- one demand more
+stand-with : (definition : ℕ → Option Definition) (lits : List Literal) (demands : List (ℕ × ℕ)) (variable count : ℕ) (o : Option ℕ) → count_of demands variable ≡ o → agrees o count ≡ true → all_stand definition lits (cond (is_none o) (demands ++ (variable, count) ∷ []) demands) ≡ (all_stand definition lits demands && stands_for definition lits count (arm_of variable))
+stand-with definition lits demands variable count None e same = all-push (λ x. stands_for definition lits x.1 (arm_of x.0)) demands (variable, count)
+stand-with definition lits demands variable count (Some before) e same = stand-one definition lits demands variable count (e ∙ ap (λ (n : ℕ). Some n) (eqb-true before count same))
+
+-- a variable with a second count
+not-both : (definition : ℕ → Option Definition) (lits : List Literal) (variable before count : ℕ) (all s t : Bool) → stands_for definition lits before (arm_of variable) ≡ s → stands_for definition lits count (arm_of variable) ≡ t → (before == count) ≡ false → all ≡ (all && s) → false ≡ (all && t)
+not-both definition lits variable before count false s t e f other g = refl
+not-both definition lits variable before count true s false e f other g = refl
+not-both definition lits variable before count true false true e f other g = absurd cc
+not-both definition lits variable before count true true true e f other g = absurd (eqb-false before count other (one-count definition lits before count variable e f))
+
+stand-against : (definition : ℕ → Option Definition) (lits : List Literal) (demands : List (ℕ × ℕ)) (variable count : ℕ) (o : Option ℕ) → count_of demands variable ≡ o → agrees o count ≡ false → false ≡ (all_stand definition lits demands && stands_for definition lits count (arm_of variable))
+stand-against definition lits demands variable count None e other = absurd cc
+stand-against definition lits demands variable count (Some before) e other =
+    not-both definition lits variable before count (all_stand definition lits demands) _ _ refl refl other (stand-one definition lits demands variable before e)
+
+stand-at : (definition : ℕ → Option Definition) (lits : List Literal) (demands : List (ℕ × ℕ)) (variable count : ℕ) (t : Bool) → agrees (count_of demands variable) count ≡ t → cond t (all_stand definition lits (with_demand demands variable count)) false ≡ (all_stand definition lits demands && stands_for definition lits count (arm_of variable))
+stand-at definition lits demands variable count true e = stand-with definition lits demands variable count (count_of demands variable) refl e
+stand-at definition lits demands variable count false e = stand-against definition lits demands variable count (count_of demands variable) refl e
+
+-- the map of the counts
+abbrev or_else : Option ℕ → Option ℕ → Option ℕ
+or_else None p = p
+or_else (Some n) p = Some n
+
+or_none : (o : Option ℕ) → or_else o None ≡ o
+or_none None = refl
+or_none (Some n) = refl
+
+count-at : (d : ℕ × ℕ) (rest more : Option ℕ) (given : Option ℕ) (other : ℕ) (t : Bool) → (d.0 == other) ≡ t → more ≡ or_else rest given → cond t (Some d.1) more ≡ or_else (cond t (Some d.1) rest) given
+count-at d rest more given other true t e = refl
+count-at d rest more given other false t e = e
+
+count-push : (demands : List (ℕ × ℕ)) (variable count other : ℕ) → count_of (demands ++ (variable, count) ∷ []) other ≡ or_else (count_of demands other) (cond (variable == other) (Some count) None)
+count-push [] variable count other = refl
+count-push (d ∷ demands) variable count other =
+    count-at d (count_of demands other) (count_of (demands ++ (variable, count) ∷ []) other) (cond (variable == other) (Some count) None) other (d.0 == other) refl (count-push demands variable count other)
+
+at-eqb : (a b : ℕ) → is_at (nat_cmp a) b ≡ (a == b)
+at-eqb a b = by (nat_lt a b) refl (a == b) refl
   where
-    by : (t : Bool) → list_any (same_demand d) demands ≡ t → all_stand definition lits (cond (list_any (same_demand d) demands) demands (demands ++ d ∷ [])) ≡ (all_stand definition lits demands && stands_for definition lits d.1 (arm_of d.0))
-    by true e = rw e (all-there (λ x. stands_for definition lits x.1 (arm_of x.0)) (same_demand d) d (same-stands definition lits d) demands e)
-    by false e = rw e (all-push (λ x. stands_for definition lits x.1 (arm_of x.0)) demands d)
+    by : (s : Bool) → nat_lt a b ≡ s → (t : Bool) → (a == b) ≡ t → is_eq (cond s Less (cond t Equal Greater)) ≡ t
+    by true less true same = absurd (omega (arith, ltb-true a b less, eqb-true a b same))
+    by true less false same = refl
+    by false less true same = refl
+    by false less false same = refl
+
+pub index-push : (demands : List (ℕ × ℕ)) (old new : BTreeMap ℕ ℕ) (variable count : ℕ) → IsIndexed demands old → get nat_cmp old variable ≡ None → ((q : ℕ) → get nat_cmp new q ≡ cond (is_at (nat_cmp variable) q) (Some count) (get nat_cmp old q)) → IsIndexed (demands ++ (variable, count) ∷ []) new
+index-push demands old new variable count h none updates q = by (variable == q) refl
+  where
+    by : (t : Bool) → (variable == q) ≡ t → get nat_cmp new q ≡ count_of (demands ++ (variable, count) ∷ []) q
+    by true e =
+        let unset : count_of demands q ≡ None = sym (h q) ∙ ap (get nat_cmp old) (sym (eqb-true variable q e)) ∙ none in
+        updates q ∙ ap (λ t. cond t (Some count) (get nat_cmp old q)) (at-eqb variable q ∙ e)
+        ∙ sym (count-push demands variable count q ∙ ap (λ o. or_else o (cond (variable == q) (Some count) None)) unset ∙ ap (λ t. cond t (Some count) None) e)
+    by false e =
+        updates q ∙ ap (λ t. cond t (Some count) (get nat_cmp old q)) (at-eqb variable q ∙ e) ∙ h q
+        ∙ sym (count-push demands variable count q ∙ ap (λ t. or_else (count_of demands q) (cond t (Some count) None)) e ∙ or_none (count_of demands q))
 
 -- arms that are constants
 abbrev pub is_true_cell : Cell → Bool
@@ -139,15 +199,18 @@ add-false definition old rest j a c does e f g =
 pub add-negated : (definition : ℕ → Option Definition) (old : Bool) (rest : List Literal) (j : ℕ) (a : Arm) (l : Literal) → a ≡ arm.Lit l → l.positive ≡ false → false ≡ (old && stands_for definition rest j a)
 add-negated definition old rest j a l e f = and-false old _ (ap (stands_for definition rest j) e ∙ stands-negated definition rest j l f)
 
-pub add-variable : (definition : ℕ → Option Definition) (old new : List (ℕ × ℕ)) (rest : List Literal) (j first variable : ℕ) (a : Arm) (l : Literal) → a ≡ arm.Lit l → l.positive ≡ true → variable ≡ l.variable → stands_for definition rest j (arm_of first) ≡ stands_for definition rest j (arm_of variable) → new ≡ insert_key same_demand old (first, j) → all_stand definition rest new ≡ (all_stand definition rest old && stands_for definition rest j a)
-add-variable definition old new rest j first variable a l e f g like h =
-    ap (all_stand definition rest) h ∙ stand-insert definition rest old (first, j)
-    ∙ ap (λ b. all_stand definition rest old && b) (like ∙ ap (stands_for definition rest j) (ap arm_of g ∙ positive-arm l f ∙ sym e))
+pub add-variable : {E : Type 0} (old new : List (ℕ × ℕ)) (rest : List Literal) (j variable : ℕ) (a : Arm) (l : Literal) (r : Result Bool E) → a ≡ arm.Lit l → l.positive ≡ true → variable ≡ l.variable → IfOk r (λ yes. yes ≡ agrees (count_of old variable) j) → IfOk r (λ _. new ≡ with_demand old variable j)
+    → IfOk r (λ yes. (definition : ℕ → Option Definition) → cond yes (all_stand definition rest new) false ≡ (all_stand definition rest old && stands_for definition rest j a))
+add-variable old new rest j variable a l (Err x) e f g does h = tt
+add-variable old new rest j variable a l (Ok t) e f g does h = λ definition.
+    ap (λ (ds : List (ℕ × ℕ)). cond t (all_stand definition rest ds) false) h
+    ∙ stand-at definition rest old variable j t (sym does)
+    ∙ ap (λ b. all_stand definition rest old && b) (ap (stands_for definition rest j) (ap arm_of g ∙ positive-arm l f ∙ sym e))
 
 -- the root alone
-pub root-alone : (definition : ℕ → Option Definition) (lits : List Literal) (none level : List (ℕ × ℕ)) (bound first root : ℕ) → stands_for definition lits bound (arm_of first) ≡ stands_for definition lits bound (arm_of root) → none ≡ [] → level ≡ insert_key same_demand none (first, bound) → all_stand definition lits level ≡ stands_for definition lits bound (arm_of root)
-root-alone definition lits none level bound first root like empty e =
-    ap (all_stand definition lits) (e ∙ ap (λ (ds : List (ℕ × ℕ)). insert_key same_demand ds (first, bound)) empty) ∙ and-true _ ∙ like
+pub root-alone : (definition : ℕ → Option Definition) (lits : List Literal) (none level : List (ℕ × ℕ)) (bound root : ℕ) → none ≡ [] → level ≡ with_demand none root bound → all_stand definition lits level ≡ stands_for definition lits bound (arm_of root)
+root-alone definition lits none level bound root empty e =
+    ap (all_stand definition lits) (e ∙ ap (λ (ds : List (ℕ × ℕ)). with_demand ds root bound) empty) ∙ and-true _
 
 -- one demand of the level
 drop_at : {X : Type 0} (xs : List X) (place : ℕ) (x : X) → slice_get xs place ≡ Some x → drop place xs ≡ x ∷ drop (place + 1) xs

@@ -1,31 +1,24 @@
--- Looking for a variable at two places: the variables so far, and the literals that are left.
-use Rattle.std.proofs.Common.{◌≡◌, ℕ, suc, ◌+◌, ◌<◌, ◌==◌, ◌++◌, ◌&&◌, ◌||◌, Bool, true, false, not, cond, List, [], ◌∷◌, length, drop, get_or, nat_eq, refl, sym, ap, ◌∙◌, subst, drop-cons, add-one, arith}
-use Rattle.std.specs.List.{list_all, list_any}
+-- Looking for a variable at two places: the literals so far, and those that are left.
+use Rattle.std.proofs.Common.{◌≡◌, ℕ, suc, ◌+◌, ◌<◌, ◌==◌, ◌++◌, ◌&&◌, ◌||◌, Bool, true, false, not, cond, List, [], ◌∷◌, length, drop, get_or, refl, sym, ap, ◌∙◌, subst, drop-cons, add-one, arith}
+use Rattle.std.specs.List.{list_all}
+use Rattle.std.proofs.lemmas.List.Folds.{list_any-append}
 use Rattle.kn_logic.specs.Literals.{Literal, names}
 use Rattle.kn_rules.specs.Steps.{are_different}
 
--- no literal is one of these variables
-abbrev pub are_apart : List ℕ → List Literal → Bool
-are_apart seen lits = list_all (λ l. not (list_any (nat_eq l.variable) seen)) lits
+-- no literal has the variable of one of these
+abbrev pub are_apart : List Literal → List Literal → Bool
+are_apart seen lits = list_all (λ l. not (names seen l.variable)) lits
 
 -- no variable is there twice, in the list or with those so far
-abbrev pub goes_on_different : List ℕ → List Literal → Bool
+abbrev pub goes_on_different : List Literal → List Literal → Bool
 goes_on_different seen lits = are_apart seen lits && are_different lits
 
-any-push : (v x : ℕ) (seen : List ℕ) → list_any (nat_eq x) (seen ++ v ∷ []) ≡ (list_any (nat_eq x) seen || (v == x))
-any-push v x [] = last (x == v) (v == x) (turned x v)
+names-push : (seen : List Literal) (l : Literal) (v : ℕ) → names (seen ++ l ∷ []) v ≡ (names seen v || (l.variable == v))
+names-push seen l v = list_any-append (λ x. x.variable == v) seen (l ∷ []) ∙ ap (λ b. names seen v || b) (or-false (l.variable == v))
   where
-    last : (a b : Bool) → a ≡ b → (a || false) ≡ b
-    last true b e = e
-    last false b e = e
-
-    turned : (a b : ℕ) → (a == b) ≡ (b == a)
-    turned a b = grind arith
-any-push v x (y ∷ seen) = or_under (nat_eq x y) _ _ _ (any-push v x seen)
-  where
-    or_under : (a b c d : Bool) → b ≡ (c || d) → (a || b) ≡ ((a || c) || d)
-    or_under true b c d e = refl
-    or_under false b c d e = e
+    or-false : (b : Bool) → (b || false) ≡ b
+    or-false true = refl
+    or-false false = refl
 
 shuffled : (s n a m : Bool) → (not (s || n) && (a && not m)) ≡ ((not s && a) && not (n || m))
 shuffled true n a m = refl
@@ -34,24 +27,22 @@ shuffled false true false m = refl
 shuffled false false true m = refl
 shuffled false false false m = refl
 
-apart-push : (seen : List ℕ) (v : ℕ) (lits : List Literal) → are_apart (seen ++ v ∷ []) lits ≡ (are_apart seen lits && not (names lits v))
-apart-push seen v [] = refl
-apart-push seen v (l ∷ lits) =
-    let one = any-push v l.variable seen in
-    let rest = apart-push seen v lits in
-    ap (λ t. not t && are_apart (seen ++ v ∷ []) lits) one
-    ∙ ap (λ b. not (list_any (nat_eq l.variable) seen || (v == l.variable)) && b) rest
-    ∙ shuffled (list_any (nat_eq l.variable) seen) (v == l.variable) (are_apart seen lits) (names lits v)
-    ∙ ap (λ t. (not (list_any (nat_eq l.variable) seen) && are_apart seen lits) && not (t || names lits v)) (turned v l.variable)
-  where
-    turned : (a b : ℕ) → (a == b) ≡ (b == a)
-    turned a b = grind arith
+turned : (a b : ℕ) → (a == b) ≡ (b == a)
+turned a b = grind arith
+
+apart-push : (seen : List Literal) (x : Literal) (lits : List Literal) → are_apart (seen ++ x ∷ []) lits ≡ (are_apart seen lits && not (names lits x.variable))
+apart-push seen x [] = refl
+apart-push seen x (l ∷ lits) =
+    ap (λ t. not t && are_apart (seen ++ x ∷ []) lits) (names-push seen x l.variable)
+    ∙ ap (λ b. not (names seen l.variable || (x.variable == l.variable)) && b) (apart-push seen x lits)
+    ∙ shuffled (names seen l.variable) (x.variable == l.variable) (are_apart seen lits) (names lits x.variable)
+    ∙ ap (λ t. (not (names seen l.variable) && are_apart seen lits) && not (t || names lits x.variable)) (turned x.variable l.variable)
 
 -- one literal more, of a new variable
-different-more : (seen : List ℕ) (l : Literal) (lits : List Literal) → list_any (nat_eq l.variable) seen ≡ false → goes_on_different (seen ++ l.variable ∷ []) lits ≡ goes_on_different seen (l ∷ lits)
+different-more : (seen : List Literal) (l : Literal) (lits : List Literal) → names seen l.variable ≡ false → goes_on_different (seen ++ l ∷ []) lits ≡ goes_on_different seen (l ∷ lits)
 different-more seen l lits e =
-    ap (λ b. b && are_different lits) (apart-push seen l.variable lits)
-    ∙ regrouped (list_any (nat_eq l.variable) seen) (are_apart seen lits) (names lits l.variable) (are_different lits) e
+    ap (λ b. b && are_different lits) (apart-push seen l lits)
+    ∙ regrouped (names seen l.variable) (are_apart seen lits) (names lits l.variable) (are_different lits) e
   where
     regrouped : (s a n d : Bool) → s ≡ false → ((a && not n) && d) ≡ ((not s && a) && (not n && d))
     regrouped true a n d e = absurd cc
@@ -62,18 +53,20 @@ apart-none : (lits : List Literal) → are_apart [] lits ≡ true
 apart-none [] = refl
 apart-none (l ∷ lits) = apart-none lits
 
-pub different-init : (seen : List ℕ) (lits : List Literal) → seen ≡ [] → goes_on_different seen lits ≡ are_different lits
-different-init seen lits e = ap (λ (s : List ℕ). goes_on_different s lits) e ∙ ap (λ b. b && are_different lits) (apart-none lits)
+pub different-init : (seen lits : List Literal) → seen ≡ [] → goes_on_different seen lits ≡ are_different lits
+different-init seen lits e = ap (λ (s : List Literal). goes_on_different s lits) e ∙ ap (λ b. b && are_different lits) (apart-none lits)
+
+split-at : (lits : List Literal) (k : ℕ) (l : Literal) → l ≡ get_or lits k l → k < length lits → drop k lits ≡ l ∷ drop (k + 1) lits
+split-at lits k l at within = rw (add-one k) (subst (λ (x : Literal). drop k lits ≡ x ∷ drop (suc k) lits) (sym at) (drop-cons lits k l within))
 
 -- one turn of the loop, which goes on behind a variable that is new
-pub different-step : (seen new : List ℕ) (lits : List Literal) (k : ℕ) (l : Literal) (variable : ℕ) (added whole : Bool) → l ≡ get_or lits k l → k < length lits → variable ≡ l.variable → added ≡ not (list_any (nat_eq variable) seen) → added ≡ true → new ≡ cond (list_any (nat_eq variable) seen) seen (seen ++ variable ∷ []) → goes_on_different seen (drop k lits) ≡ whole → goes_on_different new (drop (k + 1) lits) ≡ whole
-different-step seen new lits k l variable added whole at within v was did keys rest =
-    let fresh' : list_any (nat_eq variable) seen ≡ false = true-not _ (sym was ∙ did) in
-    let fresh : list_any (nat_eq l.variable) seen ≡ false = subst (λ x. list_any (nat_eq x) seen ≡ false) v fresh' in
-    let list : new ≡ seen ++ l.variable ∷ [] = keys ∙ ap (λ t. cond t seen (seen ++ variable ∷ [])) fresh' ∙ ap (λ (x : ℕ). seen ++ x ∷ []) v in
-    let split : drop k lits ≡ l ∷ drop (k + 1) lits = rw (add-one k) (subst (λ (x : Literal). drop k lits ≡ x ∷ drop (suc k) lits) (sym at) (drop-cons lits k l within)) in
-    ap (λ (s : List ℕ). goes_on_different s (drop (k + 1) lits)) list ∙ different-more seen l (drop (k + 1) lits) fresh ∙ ap (goes_on_different seen) (sym split) ∙ rest
-  where
-    true-not : (b : Bool) → not b ≡ true → b ≡ false
-    true-not true e = absurd cc
-    true-not false e = refl
+pub different-step : (seen new lits : List Literal) (k : ℕ) (l : Literal) (named whole : Bool) → l ≡ get_or lits k l → k < length lits → named ≡ names seen l.variable → named ≡ false → new ≡ seen ++ l ∷ [] → goes_on_different seen (drop k lits) ≡ whole → goes_on_different new (drop (k + 1) lits) ≡ whole
+different-step seen new lits k l named whole at within is fresh list rest =
+    ap (λ (s : List Literal). goes_on_different s (drop (k + 1) lits)) list ∙ different-more seen l (drop (k + 1) lits) (sym is ∙ fresh)
+    ∙ ap (goes_on_different seen) (sym (split-at lits k l at within)) ∙ rest
+
+-- and stops at one that is there
+pub different-stop : (seen lits : List Literal) (k : ℕ) (l : Literal) (named whole : Bool) → l ≡ get_or lits k l → k < length lits → named ≡ names seen l.variable → named ≡ true → goes_on_different seen (drop k lits) ≡ whole → false ≡ whole
+different-stop seen lits k l named whole at within is there rest =
+    ap (λ t. (not t && are_apart seen (drop (k + 1) lits)) && are_different (l ∷ drop (k + 1) lits)) (sym there ∙ is)
+    ∙ ap (goes_on_different seen) (sym (split-at lits k l at within)) ∙ rest

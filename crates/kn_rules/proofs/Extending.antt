@@ -9,7 +9,7 @@ use Rattle.kn_lines.specs.declared.line.Arm.TheVariants as arm
 use Rattle.kn_rules.specs.declared.definition.Definition.{Definition}
 use Rattle.kn_rules.specs.declared.given.Given.{Given}
 use Rattle.kn_rules.specs.States.{AreLiveWithin}
-use Rattle.kn_rules.specs.Sharing.{IsArmWithin, IsDefinedWithin}
+use Rattle.kn_rules.specs.States.{IsArmWithin, IsDefinedWithin}
 use Rattle.kn_rules.proofs.Nodes.{arm_value, defined_value}
 
 -- more variables

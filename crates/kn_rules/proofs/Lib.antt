@@ -2,13 +2,13 @@ mod Truth
 mod Deleting
 mod MarkLemmas
 mod Nodes
+mod OneCount
 mod DemandLemmas
 mod Different
 mod Extending
 mod Defining
 mod Units
 mod Ready
-mod Sharing
 mod Sound
 mod Faults
 mod Stepping

@@ -9,7 +9,7 @@ use Rattle.kn_logic.specs.Literals.{Literal, negated, is_same, has, names, IsKno
 use Rattle.kn_logic.specs.Propagation.{is_open}
 use Rattle.kn_logic.proofs.Public.{known-append, known-filter, known-front, known-last, known_at, has-push, unnamed}
 use Rattle.kn_rules.specs.Marks.{unmarked, mark_of, IsMarked, entry_of, is_marked, with_literal, marked, is_unopposed}
-use Rattle.kn_rules.specs.declared.trail.Mark.{Mark}
+use Rattle.kn_rules.specs.declared.assumed.Mark.{Mark}
 
 -- the list is over the variables of the table, and a variable that it does not name is unmarked
 pub record IsUnmarked (marks : List Mark) (lits : List Literal) : Type 0 where
@@ -168,3 +168,27 @@ marked-grown marks lits m =
     are_known-grown : (vars : ℕ) (lits : List Literal) → AreKnown vars lits → AreKnown (vars + 1) lits
     are_known-grown vars [] k = tt
     are_known-grown vars (l ∷ lits) k = ((k.0.0, omega (arith, k.0.1)), are_known-grown vars lits k.1)
+
+-- a variable that is named, in one polarity or the other
+one_way : (b p q : Bool) → (b && cond p q (not q)) || (b && cond (not p) q (not q)) ≡ b
+one_way true true true = refl
+one_way true true false = refl
+one_way true false true = refl
+one_way true false false = refl
+one_way false p q = refl
+
+swap_or : (a b c d : Bool) → ((a || b) || (c || d)) ≡ ((a || c) || (b || d))
+swap_or true b c d = refl
+swap_or false true true d = refl
+swap_or false true false d = refl
+swap_or false false c d = refl
+
+turned_eq : (m n : ℕ) → (m == n) ≡ (n == m)
+turned_eq m n = grind arith
+
+pub has-names : (lits : List Literal) (l : Literal) → (has lits l || has lits (negated l)) ≡ names lits l.variable
+has-names [] l = refl
+has-names (x ∷ lits) l =
+    swap_or (is_same l x) (has lits l) (is_same (negated l) x) (has lits (negated l))
+    ∙ ap (λ b. b || (has lits l || has lits (negated l))) (one_way (l.variable == x.variable) l.positive x.positive ∙ turned_eq l.variable x.variable)
+    ∙ ap (λ b. (x.variable == l.variable) || b) (has-names lits l)

@@ -9,9 +9,9 @@ use Rattle.kn_lines.specs.declared.line.Arm.{Arm}
 use Rattle.kn_rules.specs.declared.given.Given.{Given}
 use Rattle.kn_rules.specs.declared.given.Origin.{Origin}
 use Rattle.kn_rules.specs.States.{ProofState, defined_among, looked_up, definition_of, from_file, IsLiveWithin, AreLiveWithin, Defined, IsReady}
-use Rattle.kn_rules.specs.Sharing.{IsDefinedWithin}
+use Rattle.kn_rules.specs.States.{IsDefinedWithin}
 use Rattle.kn_rules.specs.Grids.{is_root}
-use Rattle.kn_rules.specs.Marks.{Assumed}
+use Rattle.kn_rules.specs.Marks.{AssumedLiterals}
 use Rattle.kn_rules.specs.Steps.{are_known, follow, is_known_variable, is_known_arm, by_definition, definition_clauses, define, count}
 use Rattle.kn_rules.proofs.Extending.{live-more, defined-more}
 use Rattle.kn_rules.proofs.Defining.{by_definition-all, definition-within}
@@ -52,11 +52,11 @@ counted-within s c root unit formed ok =
     let known = known-if (are_known s.vars c.lits && is_known_variable s.vars root) _ ok in
     known-within s.vars c c formed refl (and_parts (are_known s.vars c.lits) (is_known_variable s.vars root) known).0
 
--- entries that are over the variables, and the trail as it was
-pub still-ready : (vars : ℕ) (defined : Defined) (given more : List Given) (old new : Assumed) → IsReady vars defined given old → new ≡ old → AreLiveWithin vars more → IsReady vars defined more new
+-- entries that are over the variables, and the literals that are assumed as they were
+pub still-ready : (vars : ℕ) (defined : Defined) (given more : List Given) (old new : AssumedLiterals) → IsReady vars defined given old → new ≡ old → AreLiveWithin vars more → IsReady vars defined more new
 still-ready vars defined given more old new h same within = record {
-  empty = ap (λ (a : Assumed). a.lits) same ∙ h.empty;
-  trail = subst (λ (a : Assumed). vars ≤ a.vars) (sym same) h.trail;
+  empty = ap (λ (a : AssumedLiterals). a.lits) same ∙ h.empty;
+  room = subst (λ (a : AssumedLiterals). vars ≤ a.vars) (sym same) h.room;
   within = within;
   count = h.count;
 }
@@ -67,16 +67,16 @@ defined-push s x high low n ok e =
     subst (λ k. IsDefinedWithin k (record { test = x; high = high; low = low })) (sym e)
     (defined-known s.vars x high low (known-if (is_known_variable s.vars x.variable && (is_known_arm s.vars high && is_known_arm s.vars low)) _ ok))
 
-pub defined-ready : (s : ProofState) (x : Literal) (high low : Arm) (before after : Defined) (old new : Assumed) (given : List Given) (variable : ℕ) → IsReady s.vars before s.given old → IsOk (define s x high low) → variable ≡ s.vars + 1 → after ≡ record before { list = before.list ++ (record { test = x; high = high; low = low }) ∷ [] } → given ≡ s.given ++ map by_definition (definition_clauses (record { variable = variable; positive = true }) x high low) → new ≡ record old { vars = old.vars + 1 } → IsReady variable after given new
+pub defined-ready : (s : ProofState) (x : Literal) (high low : Arm) (before after : Defined) (old new : AssumedLiterals) (given : List Given) (variable : ℕ) → IsReady s.vars before s.given old → IsOk (define s x high low) → variable ≡ s.vars + 1 → after ≡ record before { list = before.list ++ (record { test = x; high = high; low = low }) ∷ [] } → given ≡ s.given ++ map by_definition (definition_clauses (record { variable = variable; positive = true }) x high low) → new ≡ record old { vars = old.vars + 1 } → IsReady variable after given new
 defined-ready s x high low before after old new given variable h ok v d g t =
     let w = defined-more s.vars variable _ (omega (arith, v)) (defined-push s x high low s.vars ok refl) in
     let added = definition-within variable (record { variable = variable; positive = true }) x high low (omega (arith, v), omega arith) w.test w.high w.low in
     let base : after.base ≡ before.base = ap (λ (a : Defined). a.base) d in
     let longer : length after.list ≡ length before.list + 1 = ap (λ (a : Defined). length a.list) d ∙ length-append before.list _ in
-    let vars : new.vars ≡ old.vars + 1 = ap (λ (a : Assumed). a.vars) t in
+    let vars : new.vars ≡ old.vars + 1 = ap (λ (a : AssumedLiterals). a.vars) t in
     record {
-      empty = ap (λ (a : Assumed). a.lits) t ∙ h.empty;
-      trail = omega (arith, vars, v, h.trail);
+      empty = ap (λ (a : AssumedLiterals). a.lits) t ∙ h.empty;
+      room = omega (arith, vars, v, h.room);
       within = subst (AreLiveWithin variable) (sym g) (All-append (IsLiveWithin variable) s.given _ (live-more s.vars variable s.given (omega (arith, v)) h.within) (by_definition-all (IsWithin variable) (definition_clauses (record { variable = variable; positive = true }) x high low) added));
       count = omega (arith, base, longer, v, h.count);
     }

@@ -27,7 +27,7 @@ use Rattle.kn_rules.specs.Proofs.{Runs, StepsThrough, IsProof}
 use Rattle.kn_rules.proofs.Deleting.{deleted-keep}
 use Rattle.kn_rules.proofs.Ready.{known-test, file-within}
 use Rattle.kn_rules.proofs.Nodes.{defined_value, KeepsTo, stands-count}
-use Rattle.kn_rules.specs.Sharing.{IsDefinedWithin}
+use Rattle.kn_rules.specs.States.{IsDefinedWithin}
 use Rattle.kn_rules.proofs.Extending.{live-more, defined-more, value-more, holds-more, defined_value-more}
 use Rattle.kn_rules.proofs.Defining.{by_definition-all, definition-holds, definition-within}
 use Rattle.kn_rules.proofs.Units.{false-not, true-leb, known-variable, defined-known, last-value, unit-true, unit-holds, enough}

@@ -10,7 +10,7 @@ use Rattle.kn_logic.specs.Constraints.{Bounded, IsOff, Holds}
 use Rattle.kn_lines.specs.declared.line.Arm.{Arm}
 use Rattle.kn_lines.specs.declared.line.Arm.TheVariants as arm
 use Rattle.kn_rules.specs.Steps.{is_known_variable, is_known_arm, is_unit_list, is_unit, unit_of}
-use Rattle.kn_rules.specs.Sharing.{IsArmWithin, IsDefinedWithin}
+use Rattle.kn_rules.specs.States.{IsArmWithin, IsDefinedWithin}
 
 pub false-not : (b : Bool) → not b ≡ false → b ≡ true
 false-not true e = refl

@@ -6,7 +6,6 @@ pub mod Proofs
 pub mod Searching
 pub mod Marks
 pub mod Demands
-pub mod Sharing
 pub mod Feeding
 pub mod Restoring
 pub mod Checking

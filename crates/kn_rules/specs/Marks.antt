@@ -2,10 +2,10 @@
 -- looked up in one step however long the list is.
 use Rattle.std.specs.Prelude.{ℕ, ◌≡◌, ◌+◌, ◌-◌, ◌<◌, Bool, true, false, not, ◌||◌, if◌then◌else◌, List, ◌++◌, ◌∷◌, [], length, slice_index_or, slice_set}
 use Rattle.kn_logic.specs.Literals.{Literal, negated, has, names, AreKnown}
-use Rattle.kn_rules.specs.declared.trail.Mark.{Mark}
+use Rattle.kn_rules.specs.declared.assumed.Mark.{Mark}
 
 -- literals that are taken to be true, over so many variables
-pub record Assumed : Type 0 where
+pub record AssumedLiterals : Type 0 where
   pub vars : ℕ
   pub lits : List Literal
 

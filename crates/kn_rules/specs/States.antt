@@ -1,9 +1,12 @@
 -- The state of a proof: what its lines so far have given.
 use Rattle.std.specs.Prelude.{ℕ, ◌≡◌, ◌≤◌, ◌+◌, ◌-◌, ◌==◌, nat_lt, Bool, false, if◌then◌else◌, List, [], length, map, Option, Some, None, option_and_then, slice_get, IfSome}
 use Rattle.std.specs.List.{AllByRecursion}
+use Rattle.kn_logic.specs.Literals.{IsKnown}
 use Rattle.kn_logic.specs.Constraints.{Bounded, IsWithin}
 use Rattle.kn_logic.specs.Formulas.{Problem}
-use Rattle.kn_rules.specs.Marks.{Assumed}
+use Rattle.kn_lines.specs.declared.line.Arm.{Arm}
+use Rattle.kn_lines.specs.declared.line.Arm.TheVariants as arm
+use Rattle.kn_rules.specs.Marks.{AssumedLiterals}
 use Rattle.kn_rules.specs.declared.definition.Definition.{Definition}
 use Rattle.kn_rules.specs.declared.given.Given.{Given}
 use Rattle.kn_rules.specs.declared.given.Origin.TheVariants.{File}
@@ -49,6 +52,17 @@ given_at given id = if id == 0 then None else slice_get given (id - 1)
 abbrev pub live_at : List Given → ℕ → Option Bounded
 live_at given id = option_and_then (λ entry. entry.live) (given_at given id)
 
+abbrev pub IsArmWithin : ℕ → Arm → Type 0
+IsArmWithin vars arm.True = Unit {0}
+IsArmWithin vars arm.False = Unit {0}
+IsArmWithin vars (arm.Lit l) = IsKnown vars l
+
+-- the test and the arms are over the variables from 1 to this number
+pub record IsDefinedWithin (vars : ℕ) (d : Definition) : Type 0 where
+  pub test : IsKnown vars d.test
+  pub high : IsArmWithin vars d.high
+  pub low : IsArmWithin vars d.low
+
 -- Each live constraint is over the variables from 1 to this number.
 abbrev pub IsLiveWithin : ℕ → Given → Type 0
 IsLiveWithin vars entry = IfSome entry.live (IsWithin vars)
@@ -56,10 +70,10 @@ IsLiveWithin vars entry = IfSome entry.live (IsWithin vars)
 abbrev pub AreLiveWithin : ℕ → List Given → Type 0
 AreLiveWithin vars given = AllByRecursion (IsLiveWithin vars) given
 
--- What a checker keeps between two lines: its constraints are over its variables, no hint is run on a trail
--- that is over these variables at least, and each variable behind those of the file has its definition.
-pub record IsReady (vars : ℕ) (defined : Defined) (given : List Given) (assumed : Assumed) : Type 0 where
+-- What a checker keeps between two lines: its constraints are over its variables, no literal is assumed in a
+-- list that is over these variables at least, and each variable behind those of the file has its definition.
+pub record IsReady (vars : ℕ) (defined : Defined) (given : List Given) (assumed : AssumedLiterals) : Type 0 where
   pub empty : assumed.lits ≡ []
-  pub trail : vars ≤ assumed.vars
+  pub room : vars ≤ assumed.vars
   pub within : AreLiveWithin vars given
   pub count : defined.base + length defined.list ≡ vars

@@ -12,9 +12,9 @@ use crate::definitions::Definitions;
 use crate::deletion::{discard, put_back, take_out};
 use crate::grid::is_root;
 use crate::hints::follows;
-use crate::ids::{are_live, live};
-use crate::known::{are_different, are_known, is_known, is_known_arm};
-use crate::trail::Trail;
+use crate::ids::live;
+use crate::known::{are_different, are_known, is_known, is_known_arm, is_plain};
+use crate::assumed::Assumed;
 use crate::{Definition, Given, Origin};
 use kn_lines::{Arm, Line};
 use kn_logic::{Constraint, Formula, Lit, NoMemory};
@@ -56,7 +56,7 @@ pub struct Checker {
     definitions: Definitions,
     given: Vec<Given>,
     refuted: bool,
-    trail: Trail,
+    assumed: Assumed,
 }
 
 impl Model for Checker {
@@ -66,7 +66,7 @@ impl Model for Checker {
 
     ghost view = { λ c. record { vars = c.vars; definitions = c.definitions.list; given = c.given.items; refuted = c.refuted } };
 
-    ghost invariant = { λ c. IsReady c.vars c.definitions c.given.items c.trail };
+    ghost invariant = { λ c. IsReady c.vars c.definitions c.given.items c.assumed };
 }
 
 impl Checker {
@@ -81,7 +81,7 @@ impl Checker {
             definitions: Definitions::new(alloc, vars),
             given: file_given(alloc, f.constraints())?,
             refuted: false,
-            trail: Trail::new(alloc, vars)?,
+            assumed: Assumed::new(alloc, vars)?,
         })
     }
 
@@ -179,11 +179,10 @@ impl Checker {
         if !are_known(self.vars, lits) {
             return Err(FeedError::Wrong(3));
         }
-        if !are_live(&self.given, hints) {
-            return Err(FeedError::Wrong(4));
-        }
-        if !follows(&mut self.trail, &self.given, lits, hints)? {
-            return Err(FeedError::Wrong(5));
+        match follows(&mut self.assumed, &self.given, lits, hints)? {
+            Some(true) => {}
+            Some(false) => return Err(FeedError::Wrong(5)),
+            None => return Err(FeedError::Wrong(4)),
         }
         let clause = constraint_of(*self.given.allocator(), 1, lits)?;
         self.given.push(Given {
@@ -234,9 +233,9 @@ impl Checker {
         let d = Definition { test: x, high, low };
         let mut given = definition_given(*self.given.allocator(), Lit::new(variable, true), &d)?;
         self.given.reserve(given.len())?;
-        // the trail stays longer by one where memory is wanting below, which no line can see
-        self.trail.grow()?;
-        self.definitions.push(d)?;
+        // one variable more stays assumable where memory is wanting below, which no line can see
+        self.assumed.grow()?;
+        self.definitions.push(d.test, d.high, d.low)?;
         let Ok(()) = self.given.append(&mut given) else {
             unreachable!()
         };
@@ -254,14 +253,14 @@ impl Checker {
         let Some(unit) = live(&self.given, unit) else {
             return Err(FeedError::Wrong(4))
         };
-        let alloc = *self.given.allocator();
-        if !are_different(alloc, c.lits())? {
+        let says_root = is_unit(unit, root);
+        if !are_different(&mut self.assumed, c.lits())? {
             return Err(FeedError::Wrong(8));
         }
         if !self.is_root(c.lits(), c.bound(), root)? {
             return Err(FeedError::Wrong(7));
         }
-        if !is_unit(unit, root) {
+        if !says_root {
             return Err(FeedError::Wrong(6));
         }
         self.give(Origin::Klause, c.copy()?)?;
@@ -284,14 +283,12 @@ impl Checker {
         if !is_known(self.vars, root) {
             return Err(FeedError::Wrong(3));
         }
-        let Some(klause) = live(&self.given, id) else {
-            return Err(FeedError::Wrong(4))
-        };
-        let alloc = *self.given.allocator();
-        if klause.guard().is_some() || !are_different(alloc, klause.lits())? {
-            return Err(FeedError::Wrong(8));
+        match is_plain(&mut self.assumed, &self.given, id)? {
+            Some(true) => {}
+            Some(false) => return Err(FeedError::Wrong(8)),
+            None => return Err(FeedError::Wrong(4)),
         }
-        if !self.is_root(klause.lits(), klause.bound(), root)? {
+        if !self.is_root_of(id, root)? {
             return Err(FeedError::Wrong(7));
         }
         self.keep_root(id, root)?;
@@ -328,6 +325,16 @@ impl Checker {
     {
         let alloc = *self.given.allocator();
         is_root(alloc, &self.definitions, lits, bound, root)
+    }
+
+    /// The same of the grid of a live id's constraint.
+    fn is_root_of(&self, id: u64, root: u64) -> Result<bool, NoMemory>
+        ensures { IfOk result (λ yes. IfSome (live_at self.now.given id) (λ c. yes ≡ is_root (definition_of self.now) c.lits c.bound root)) }
+    {
+        match self.live(id) {
+            Some(c) => self.is_root(c.lits(), c.bound(), root),
+            None => Ok(true),
+        }
     }
 
     /// Deletes ids, each of which is live when its turn comes.

@@ -1,25 +1,28 @@
-ghost use Rattle.std.specs.Prelude.{◌≡◌, [], nat_eq, length, slice_get, OnOk};
-ghost use Rattle.kn_rules.specs.Demands.{same_demand};
-ghost use Rattle.indexmap.specs.IndexSet.{insert_key};
+ghost use Rattle.std.specs.Prelude.{◌≡◌, [], length, slice_get, IfOk};
+ghost use Rattle.kn_rules.specs.Demands.{count_of, agrees, with_demand};
 
-use indexmap::IndexSet;
 use kn_logic::NoMemory;
 use std::alloc::Global;
+use std::collections::BTreeMap;
 use std::marker::Model;
 
-/// What has to stand for nodes of one level of a grid: a variable, and the count of its node. Each is there
-/// once, however many arms lead to it.
+/// What has to stand for nodes of one level of a grid: variables, each with the count of its node.
 #[derive(Drop)]
 pub struct Demands {
-    set: IndexSet<(u64, u64)>,
+    list: Vec<(u64, u64)>,
+    // the count of each variable of the list
+    counts: BTreeMap<u64, u64>,
 }
 
 impl Model for Demands {
     ghost use Rattle.std.specs.Prelude.{ℕ, List};
+    ghost use Rattle.kn_rules.specs.Demands.{IsIndexed};
 
     ghost Value = { List (ℕ × ℕ) };
 
-    ghost view = { λ d. d.set.keys };
+    ghost view = { λ d. d.list.items };
+
+    ghost invariant = { λ d. IsIndexed d.list.items d.counts };
 }
 
 impl Demands {
@@ -28,29 +31,39 @@ impl Demands {
         ensures { result ≡ [] }
     {
         Demands {
-            set: IndexSet::new(alloc),
+            list: Vec::new(alloc),
+            counts: BTreeMap::new(alloc),
         }
     }
 
-    /// Adds a demand behind the others, unless it is there.
-    pub fn add(&mut self, variable: u64, count: u64) -> Result<(), NoMemory>
-        ensures { OnOk result (self.new ≡ insert_key same_demand self.old (variable, count)) }
+    /// Adds a demand behind the others, unless its variable has one; `false` exactly where that has another
+    /// count.
+    pub fn add(&mut self, variable: u64, count: u64) -> Result<bool, NoMemory>
+        ensures agrees { IfOk result (λ yes. yes ≡ agrees (count_of self.old variable) count) }
+        ensures added { IfOk result (λ _. self.new ≡ with_demand self.old variable count) }
     {
-        self.set.insert((variable, count))?;
-        Ok(())
+        if let Some(before) = self.counts.get(&variable) {
+            return Ok(*before == count);
+        }
+        self.list.reserve(1)?;
+        self.counts.insert(variable, count)?;
+        let Ok(()) = self.list.push((variable, count)) else {
+            unreachable!()
+        };
+        Ok(true)
     }
 
     /// The number of demands.
     pub fn len(&self) -> usize
         ensures { result ≡ length self.now }
     {
-        self.set.len()
+        self.list.len()
     }
 
     /// The demand at this place, counted from 0; `None` exactly where there are not so many.
     pub fn get(&self, place: usize) -> Option<(u64, u64)>
         ensures { result ≡ slice_get self.now place }
     {
-        self.set.get_index(place).copied()
+        self.list.get(place).copied()
     }
 }

@@ -3,6 +3,7 @@ ghost use Rattle.kn_logic.specs.Literals.{Literal, is_same};
 ghost use Rattle.kn_rules.specs.Grids.{stands_for, is_root};
 ghost use Rattle.kn_rules.specs.Demands.{arm_of, all_stand, all_go_on};
 ghost use Rattle.kn_rules.specs.States.{looked_up};
+ghost use Rattle.kn_rules.specs.declared.definition.Definition.{Definition};
 
 use crate::definitions::Definitions;
 use crate::demands::Demands;
@@ -12,8 +13,9 @@ use kn_logic::{Lit, NoMemory};
 use std::alloc::Global;
 
 /// Whether a variable stands for the root of the grid of "at least `bound` of these literals". Goes down the
-/// grid a literal at a time, with what has to stand for the nodes of a level, each once: this costs at most
-/// two look-ups for each literal and count, where the root stands.
+/// grid a literal at a time, with the variables that have to stand for nodes of the level, each once: a second
+/// count for one of them is a failure. So where the literals have different variables each definition is looked
+/// at once, whether the root stands or not.
 pub fn is_root(
     alloc: Global,
     definitions: &Definitions,
@@ -24,7 +26,7 @@ pub fn is_root(
     ensures { IfOk result (λ yes. yes ≡ is_root (looked_up definitions.now) lits.now bound root) }
 {
     let mut level = Demands::new(alloc);
-    level.add(definitions.first(root), bound)?;
+    level.add(root, bound)?;
     let mut left = lits;
     while let Some((lit, rest)) = left.split_first() {
         match behind(alloc, definitions, *lit, rest, &level)? {
@@ -77,17 +79,17 @@ fn add_arms(
         return Ok(false)
     };
     if is_same(d.test, lit) {
-        return add_both(definitions, next, rest, &d.high, &d.low, count);
+        return add_both(next, rest, &d.high, &d.low, count);
     }
     if is_same(d.test, lit.negated()) {
-        return add_both(definitions, next, rest, &d.low, &d.high, count);
+        return add_both(next, rest, &d.low, &d.high, count);
     }
     Ok(false)
 }
 
-/// Adds that one arm stands for the node with one less, and the other for the node with the count.
+/// Adds that one arm stands for the node with one less, and the other for the node with the count; `false`
+/// where they cannot.
 fn add_both(
-    definitions: &Definitions,
     next: &mut Demands,
     rest: &[Lit],
     less: &Arm,
@@ -95,23 +97,17 @@ fn add_both(
     count: u64,
 ) -> Result<bool, NoMemory>
     requires { 1 ≤ count }
-    ensures { IfOk result (λ yes. (if yes then all_stand (looked_up definitions.now) rest.now next.new else false) ≡ (all_stand (looked_up definitions.now) rest.now next.old && (stands_for (looked_up definitions.now) rest.now (count - 1) less.now && stands_for (looked_up definitions.now) rest.now count same.now))) }
+    ensures { IfOk result (λ yes. (definition : ℕ → Option Definition) → (if yes then all_stand definition rest.now next.new else false) ≡ (all_stand definition rest.now next.old && (stands_for definition rest.now (count - 1) less.now && stands_for definition rest.now count same.now))) }
 {
-    if !add(definitions, next, rest, less, count - 1)? {
+    if !add(next, rest, less, count - 1)? {
         return Ok(false);
     }
-    add(definitions, next, rest, same, count)
+    add(next, rest, same, count)
 }
 
 /// Adds that an arm stands for the node with this count; `false` where it cannot.
-fn add(
-    definitions: &Definitions,
-    next: &mut Demands,
-    rest: &[Lit],
-    arm: &Arm,
-    count: u64,
-) -> Result<bool, NoMemory>
-    ensures { IfOk result (λ yes. (if yes then all_stand (looked_up definitions.now) rest.now next.new else false) ≡ (all_stand (looked_up definitions.now) rest.now next.old && stands_for (looked_up definitions.now) rest.now count arm.now)) }
+fn add(next: &mut Demands, rest: &[Lit], arm: &Arm, count: u64) -> Result<bool, NoMemory>
+    ensures { IfOk result (λ yes. (definition : ℕ → Option Definition) → (if yes then all_stand definition rest.now next.new else false) ≡ (all_stand definition rest.now next.old && stands_for definition rest.now count arm.now)) }
 {
     match arm {
         Arm::True => Ok(matches!(grid_cell(rest.len() as u64, 1, count), Cell::True)),
@@ -120,8 +116,7 @@ fn add(
             if !lit.is_positive() {
                 return Ok(false);
             }
-            next.add(definitions.first(lit.var()), count)?;
-            Ok(true)
+            next.add(lit.var(), count)
         }
     }
 }

@@ -1,4 +1,4 @@
-ghost use Rattle.std.specs.Prelude.{◌≡◌, ◌++◌, [], map, Some, None, IfOk, IsSome, OnOk, option_map, if◌then◌else◌};
+ghost use Rattle.std.specs.Prelude.{◌≡◌, ◌++◌, [], map, Some, None, true, IfOk, OnOk, option_map, if◌then◌else◌};
 ghost use Rattle.std.specs.Option.{is_none};
 ghost use Rattle.kn_logic.specs.Literals.{IsKnown, AreKnown, negated};
 ghost use Rattle.kn_logic.specs.Constraints.{IsWithin};
@@ -7,117 +7,128 @@ ghost use Rattle.kn_rules.specs.States.{AreLiveWithin};
 ghost use Rattle.kn_rules.specs.Steps.{hinted, is_conflict};
 
 use crate::Given;
-use crate::ids::live;
-use crate::trail::Trail;
+use crate::ids::{are_live, live};
+use crate::assumed::Assumed;
 use kn_logic::{Constraint, Lit, NoMemory};
 
-/// Whether the hints, run from the negations of the literals, end in conflict. The trail, which is
-/// empty, is so again afterwards.
+/// Whether the hints, run from the negations of the literals, end in conflict; `None` exactly where one of them
+/// is not live, also behind a conflict. Each is looked up once. The list of what is assumed, which is empty, is so
+/// again afterwards.
 pub fn follows(
-    trail: &mut Trail,
+    assumed: &mut Assumed,
     given: &[Given],
     lits: &[Lit],
     hints: &[u64],
-) -> Result<bool, NoMemory>
-    requires empty { trail.old.lits ≡ [] }
-    requires known { AreKnown trail.old.vars lits.now }
-    requires within { AreLiveWithin trail.old.vars given.now }
-    requires live { IsSome (hinted given.now hints.now) }
-    ensures conflict { IfOk result (λ yes. option_map (is_conflict lits.now) (hinted given.now hints.now) ≡ Some yes) }
-    ensures same { trail.new ≡ trail.old }
+) -> Result<Option<bool>, NoMemory>
+    requires empty { assumed.old.lits ≡ [] }
+    requires known { AreKnown assumed.old.vars lits.now }
+    requires within { AreLiveWithin assumed.old.vars given.now }
+    ensures run { IfOk result (λ run. run ≡ option_map (is_conflict lits.now) (hinted given.now hints.now)) }
+    ensures same { assumed.new ≡ assumed.old }
 {
-    let run = run_from_negations(trail, given, lits, hints);
-    trail.clear();
+    let run = run_from_negations(assumed, given, lits, hints);
+    assumed.clear();
     run
 }
 
 fn run_from_negations(
-    trail: &mut Trail,
+    assumed: &mut Assumed,
     given: &[Given],
     lits: &[Lit],
     hints: &[u64],
-) -> Result<bool, NoMemory>
-    requires empty { trail.old.lits ≡ [] }
-    requires known { AreKnown trail.old.vars lits.now }
-    requires within { AreLiveWithin trail.old.vars given.now }
-    requires live { IsSome (hinted given.now hints.now) }
-    ensures conflict { IfOk result (λ yes. option_map (is_conflict lits.now) (hinted given.now hints.now) ≡ Some yes) }
-    ensures vars { trail.new.vars ≡ trail.old.vars }
+) -> Result<Option<bool>, NoMemory>
+    requires empty { assumed.old.lits ≡ [] }
+    requires known { AreKnown assumed.old.vars lits.now }
+    requires within { AreLiveWithin assumed.old.vars given.now }
+    ensures run { IfOk result (λ run. run ≡ option_map (is_conflict lits.now) (hinted given.now hints.now)) }
+    ensures vars { assumed.new.vars ≡ assumed.old.vars }
 {
-    push_negations(trail, lits)?;
-    ends_in_conflict(trail, given, hints)
+    push_negations(assumed, lits)?;
+    run_hints(assumed, given, hints)
 }
 
-fn push_negations(trail: &mut Trail, lits: &[Lit]) -> Result<(), NoMemory>
-    requires { AreKnown trail.old.vars lits.now }
-    ensures pushed { OnOk result (trail.new.lits ≡ trail.old.lits ++ map negated lits.now) }
-    ensures vars { trail.new.vars ≡ trail.old.vars }
+fn push_negations(assumed: &mut Assumed, lits: &[Lit]) -> Result<(), NoMemory>
+    requires { AreKnown assumed.old.vars lits.now }
+    ensures pushed { OnOk result (assumed.new.lits ≡ assumed.old.lits ++ map negated lits.now) }
+    ensures vars { assumed.new.vars ≡ assumed.old.vars }
 {
     for lit in lits {
-        trail.push(lit.negated())?;
+        assumed.push(lit.negated())?;
     }
     Ok(())
 }
 
-/// Whether the run of the hints, which are all live, ends in conflict. Those behind it are not run.
-fn ends_in_conflict(trail: &mut Trail, given: &[Given], hints: &[u64]) -> Result<bool, NoMemory>
-    requires within { AreLiveWithin trail.old.vars given.now }
-    requires live { IsSome (hinted given.now hints.now) }
-    ensures conflict { IfOk result (λ yes. option_map (λ cs. is_none (hint_run trail.old.lits cs)) (hinted given.now hints.now) ≡ Some yes) }
-    ensures vars { trail.new.vars ≡ trail.old.vars }
+/// Whether the run of the hints ends in conflict. Those behind it are not run, but are to be live too.
+fn run_hints(
+    assumed: &mut Assumed,
+    given: &[Given],
+    hints: &[u64],
+) -> Result<Option<bool>, NoMemory>
+    requires { AreLiveWithin assumed.old.vars given.now }
+    ensures run { IfOk result (λ run. run ≡ option_map (λ cs. is_none (hint_run assumed.old.lits cs)) (hinted given.now hints.now)) }
+    ensures vars { assumed.new.vars ≡ assumed.old.vars }
 {
-    for id in hints {
+    let mut left = hints;
+    while let Some((id, rest)) = left.split_first() {
         let Some(hint) = live(given, *id) else {
-            unreachable!()
+            return Ok(None)
         };
-        if !apply(trail, hint)? {
-            return Ok(true);
+        if !apply(assumed, hint)? {
+            return Ok(conflict_before(given, rest));
         }
+        left = rest;
     }
-    Ok(false)
+    Ok(Some(false))
+}
+
+/// What becomes of a run that has ended in conflict: `None` exactly where a hint behind it is not live.
+fn conflict_before(given: &[Given], rest: &[u64]) -> Option<bool>
+    ensures { result ≡ option_map (λ _. true) (hinted given.now rest.now) }
+{
+    if are_live(given, rest) { Some(true) } else { None }
 }
 
 /// Runs one hint, and tells whether the run goes on: it does not where it ends in conflict.
-fn apply(trail: &mut Trail, hint: &Constraint) -> Result<bool, NoMemory>
-    requires { IsWithin trail.old.vars hint.now }
-    ensures run { IfOk result (λ on. after_hint trail.old.lits hint.now ≡ (if on then Some trail.new.lits else None)) }
-    ensures vars { trail.new.vars ≡ trail.old.vars }
+fn apply(assumed: &mut Assumed, hint: &Constraint) -> Result<bool, NoMemory>
+    requires { IsWithin assumed.old.vars hint.now }
+    ensures run { IfOk result (λ on. after_hint assumed.old.lits hint.now ≡ (if on then Some assumed.new.lits else None)) }
+    ensures vars { assumed.new.vars ≡ assumed.old.vars }
 {
     match hint.guard() {
-        Some(guard) => apply_guarded(trail, guard, hint.bound(), hint.lits()),
-        None => apply_bound(trail, hint.bound(), hint.lits()),
+        Some(guard) => apply_guarded(assumed, guard, hint.bound(), hint.lits()),
+        None => apply_bound(assumed, hint.bound(), hint.lits()),
     }
 }
 
-fn apply_guarded(trail: &mut Trail, guard: Lit, bound: u64, lits: &[Lit]) -> Result<bool, NoMemory>
-    requires guard { IsKnown trail.old.vars guard }
-    requires known { AreKnown trail.old.vars lits.now }
-    ensures run { IfOk result (λ on. after_guard trail.old.lits guard bound lits.now ≡ (if on then Some trail.new.lits else None)) }
-    ensures vars { trail.new.vars ≡ trail.old.vars }
+fn apply_guarded(assumed: &mut Assumed, guard: Lit, bound: u64, lits: &[Lit]) -> Result<bool, NoMemory>
+    requires guard { IsKnown assumed.old.vars guard }
+    requires known { AreKnown assumed.old.vars lits.now }
+    ensures run { IfOk result (λ on. after_guard assumed.old.lits guard bound lits.now ≡ (if on then Some assumed.new.lits else None)) }
+    ensures vars { assumed.new.vars ≡ assumed.old.vars }
 {
-    if trail.has(guard) {
-        return apply_bound(trail, bound, lits);
+    if assumed.has(guard) {
+        return apply_bound(assumed, bound, lits);
     }
-    if trail.has(guard.negated()) {
+    if assumed.has(guard.negated()) {
         return Ok(true);
     }
-    if trail.count_open(lits) < bound {
-        trail.push(guard.negated())?;
+    if assumed.count_open_to(lits, bound) < bound {
+        assumed.push(guard.negated())?;
     }
     Ok(true)
 }
 
-fn apply_bound(trail: &mut Trail, bound: u64, lits: &[Lit]) -> Result<bool, NoMemory>
-    requires { AreKnown trail.old.vars lits.now }
-    ensures run { IfOk result (λ on. after_bound trail.old.lits bound lits.now ≡ (if on then Some trail.new.lits else None)) }
-    ensures vars { trail.new.vars ≡ trail.old.vars }
+fn apply_bound(assumed: &mut Assumed, bound: u64, lits: &[Lit]) -> Result<bool, NoMemory>
+    requires { AreKnown assumed.old.vars lits.now }
+    ensures run { IfOk result (λ on. after_bound assumed.old.lits bound lits.now ≡ (if on then Some assumed.new.lits else None)) }
+    ensures vars { assumed.new.vars ≡ assumed.old.vars }
 {
-    let open = trail.count_open(lits);
+    let open = assumed.count_open_to(lits, bound);
     if open < bound {
         return Ok(false);
     }
     if open == bound {
-        trail.push_open(lits)?;
+        assumed.push_open(lits)?;
     }
     Ok(true)
 }

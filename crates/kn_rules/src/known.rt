@@ -1,10 +1,14 @@
-ghost use Rattle.std.specs.Prelude.{◌≡◌, IfOk};
+ghost use Rattle.std.specs.Prelude.{◌≡◌, ◌&&◌, [], IfOk, option_map};
+ghost use Rattle.std.specs.Option.{is_none};
+ghost use Rattle.kn_logic.specs.Literals.{AreKnown};
+ghost use Rattle.kn_rules.specs.States.{AreLiveWithin, live_at};
 ghost use Rattle.kn_rules.specs.Steps.{are_known, is_known_variable, is_known_arm, are_different};
 
-use indexmap::IndexSet;
+use crate::Given;
+use crate::assumed::Assumed;
+use crate::ids::live;
 use kn_lines::Arm;
 use kn_logic::{Lit, NoMemory};
-use std::alloc::Global;
 
 /// Whether the variables of all literals are known: those from 1 to `vars` are.
 pub fn are_known(vars: u64, lits: &[Lit]) -> bool
@@ -35,15 +39,54 @@ pub fn is_known_arm(vars: u64, arm: &Arm) -> bool
     }
 }
 
-/// Whether no variable stands at two places.
-pub fn are_different(alloc: Global, lits: &[Lit]) -> Result<bool, NoMemory>
-    ensures { IfOk result (λ yes. yes ≡ are_different lits.now) }
+/// Whether no variable stands at two places. The list of what is assumed, which is empty, serves to find them, and
+/// is empty again afterwards.
+pub fn are_different(assumed: &mut Assumed, lits: &[Lit]) -> Result<bool, NoMemory>
+    requires empty { assumed.old.lits ≡ [] }
+    requires known { AreKnown assumed.old.vars lits.now }
+    ensures value { IfOk result (λ yes. yes ≡ are_different lits.now) }
+    ensures same { assumed.new ≡ assumed.old }
 {
-    let mut seen = IndexSet::new(alloc);
+    let different = push_different(assumed, lits);
+    assumed.clear();
+    different
+}
+
+/// Whether the constraint of an id has no guard and no variable at two places; `None` exactly where the id is not
+/// live.
+pub fn is_plain(
+    assumed: &mut Assumed,
+    given: &[Given],
+    id: u64,
+) -> Result<Option<bool>, NoMemory>
+    requires empty { assumed.old.lits ≡ [] }
+    requires within { AreLiveWithin assumed.old.vars given.now }
+    ensures value { IfOk result (λ found. found ≡ option_map (λ c. is_none c.guard && are_different c.lits) (live_at given.now id)) }
+    ensures same { assumed.new ≡ assumed.old }
+{
+    match live(given, id) {
+        Some(c) => {
+            if c.guard().is_some() {
+                return Ok(Some(false));
+            }
+            Ok(Some(are_different(assumed, c.lits())?))
+        }
+        None => Ok(None),
+    }
+}
+
+/// Adds the literals up to the first whose variable stands there, and tells whether there is none.
+fn push_different(assumed: &mut Assumed, lits: &[Lit]) -> Result<bool, NoMemory>
+    requires empty { assumed.old.lits ≡ [] }
+    requires known { AreKnown assumed.old.vars lits.now }
+    ensures value { IfOk result (λ yes. yes ≡ are_different lits.now) }
+    ensures vars { assumed.new.vars ≡ assumed.old.vars }
+{
     for lit in lits {
-        if !seen.insert(lit.var())? {
+        if assumed.names(*lit) {
             return Ok(false);
         }
+        assumed.push(*lit)?;
     }
     Ok(true)
 }

@@ -1,9 +1,12 @@
-ghost use Rattle.std.specs.Prelude.{◌≡◌, ◌≤◌, ◌<◌, ◌+◌, ◌++◌, ◌∷◌, ◌^◌, ℕ, List, [], Ok, Some, length, false};
+ghost use Rattle.std.specs.Prelude.{◌≡◌, ◌≤◌, ◌<◌, ◌+◌, ◌++◌, ◌∷◌, ◌^◌, ℕ, List, [], Option, Ok, Some, length, true, false};
 ghost use Rattle.kn_logic.specs.Literals.{Literal};
 ghost use Rattle.kn_logic.specs.Formulas.{Problem, IsFormula, IsUnsatisfiable};
 ghost use Rattle.kn_lines.specs.declared.line.Arm.{Arm};
 ghost use Rattle.kn_lines.specs.declared.line.Line.{Line};
 ghost use Rattle.kn_lines.specs.declared.line.Line.TheVariants.{Define};
+ghost use Rattle.kn_rules.specs.declared.definition.Definition.{Definition};
+ghost use Rattle.kn_rules.specs.Grids.{stands_for};
+ghost use Rattle.kn_rules.specs.Demands.{arm_of};
 ghost use Rattle.kn_rules.specs.States.{ProofState, definition_of};
 ghost use Rattle.kn_rules.specs.Steps.{step};
 ghost use Rattle.kn_rules.specs.Stepping.{StepsBy, is_definition, deletions_in, learned_in};
@@ -34,6 +37,12 @@ pub fn definitions_are_kept()
         step s line ≡ Ok t → (t.vars ≡ s.vars) × (t.definitions ≡ s.definitions) }
     ensures within { (s : ProofState) (t : ProofState) (line : Line) → length s.definitions ≤ s.vars →
         step s line ≡ Ok t → length t.definitions ≤ t.vars }
+{}
+
+/// A law over the definitions, and no code: a variable stands for one node of a level of a grid at most.
+pub fn a_variable_has_one_count()
+    ensures { (definition : ℕ → Option Definition) (lits : List Literal) (i : ℕ) (j : ℕ) (variable : ℕ) →
+        stands_for definition lits i (arm_of variable) ≡ true → stands_for definition lits j (arm_of variable) ≡ true → i ≡ j }
 {}
 
 /// A law over the definitions, and no code: the lines of a search step, and a search that has not ended goes on

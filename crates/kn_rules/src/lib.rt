@@ -1,11 +1,11 @@
 //! The checker of proofs, which is exact, and the law that an accepted proof leaves its formula without a
 //! model. `check` answers for a whole text; what makes proofs line by line keeps a `Checker` beside it, and
-//! reads off which ids are live. A `Trail` is the list of literals that a run of hints takes to be true, of
-//! use to a search too. The definitions stand in `specs/`: what ids stand for (`States`), which variables
+//! reads off which ids are live. `Assumed` is a list of literals that are taken to be true, as a run of hints
+//! keeps it, of use to a search too. The definitions stand in `specs/`: what ids stand for (`States`), which variables
 //! stand for the nodes of a count's grid (`Grids`), what a line asks of a state and makes of it (`Steps`),
 //! lines one after another (`Stepping`), whole proofs and their first fault (`Proofs`), and the lines that a
 //! search may add (`Searching`), of which there are few by law. `Feeding` and `Checking` have the words of
-//! the contracts, `Marks`, `Restoring`, `Demands` and `Sharing` what the code keeps.
+//! the contracts, `Marks`, `Restoring` and `Demands` what the code keeps.
 #![tactic(auto)]
 
 mod checker;
@@ -20,16 +20,16 @@ mod hints;
 mod ids;
 mod known;
 mod laws;
-mod trail;
+mod assumed;
 mod whole;
 
 pub use checker::{Checker, FeedError};
 pub use definition::Definition;
 pub use given::{Given, Origin};
 pub use laws::{
-    definitions_are_kept, never_both, proof_refutes, searches_go_on, searches_learn_few,
+    a_variable_has_one_count, definitions_are_kept, never_both, proof_refutes, searches_go_on, searches_learn_few,
 };
-pub use trail::Trail;
+pub use assumed::Assumed;
 pub use whole::{Checked, check};
 
 #[cfg(test)]

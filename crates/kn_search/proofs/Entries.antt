@@ -8,7 +8,7 @@ use Rattle.std.proofs.lemmas.List.Folds.{list_any-append}
 use Rattle.kn_logic.proofs.Public.{known-append, known-front}
 use Rattle.kn_logic.specs.Literals.{Literal, negated, is_same, has, names, IsKnown, AreKnown, AreDifferent}
 use Rattle.kn_rules.specs.declared.given.Given.{Given}
-use Rattle.kn_rules.specs.Marks.{Assumed, IsLastAlone}
+use Rattle.kn_rules.specs.Marks.{AssumedLiterals, IsLastAlone}
 use Rattle.kn_search.specs.declared.trail.Entry.{Entry}
 use Rattle.kn_search.specs.Trails.{Trailed, literals, decisions, IsTrail, has_decision, before_decision, Follows}
 
@@ -73,7 +73,7 @@ literals-push : (entries : List Entry) (e : Entry) → literals (entries ++ e �
 literals-push entries e = map-append (λ (x : Entry). x.lit) entries (e ∷ [])
 
 -- a trail with one entry more
-pub trail-push : (old new : Assumed) (entries : List Entry) (e : Entry) → IsTrail old entries → new ≡ (record old { lits = old.lits ++ e.lit ∷ [] }) → IsKnown old.vars e.lit → names (literals entries) e.lit.variable ≡ false → IsTrail new (entries ++ e ∷ [])
+pub trail-push : (old new : AssumedLiterals) (entries : List Entry) (e : Entry) → IsTrail old entries → new ≡ (record old { lits = old.lits ++ e.lit ∷ [] }) → IsKnown old.vars e.lit → names (literals entries) e.lit.variable ≡ false → IsTrail new (entries ++ e ∷ [])
 trail-push old new entries e t is known unset = subst (λ x. IsTrail x (entries ++ e ∷ [])) (sym is) (record {
   lits = ap (λ (lits : List Literal). lits ++ e.lit ∷ []) t.lits ∙ sym (literals-push entries e);
   known = subst (AreKnown old.vars) (sym (literals-push entries e)) (known-append old.vars (literals entries) (e.lit ∷ []) t.known (known, tt));
@@ -95,7 +95,7 @@ last-same (x ∷ a) (y ∷ b) l m e =
     cc
 
 -- a trail with its last entry taken out
-trail-pop : (old new : Assumed) (entries : List Entry) (e : Entry) (l : Literal) → IsTrail old (entries ++ e ∷ []) → new.vars ≡ old.vars → old.lits ≡ new.lits ++ l ∷ [] → IsTrail new entries
+trail-pop : (old new : AssumedLiterals) (entries : List Entry) (e : Entry) (l : Literal) → IsTrail old (entries ++ e ∷ []) → new.vars ≡ old.vars → old.lits ≡ new.lits ++ l ∷ [] → IsTrail new entries
 trail-pop old new entries e l t vars lits =
     let whole = t.lits ∙ literals-push entries e in
     record {
@@ -104,7 +104,7 @@ trail-pop old new entries e l t vars lits =
       different = different-front (literals entries) (e.lit ∷ []) (subst AreDifferent (literals-push entries e) t.different);
     }
 
-pub trail-popped : (old new : Assumed) (entries : List Entry) (e : Entry) (o : Option Literal) → IsTrail old (entries ++ e ∷ []) → new.vars ≡ old.vars → MatchOption o ((old.lits ≡ []) × (new.lits ≡ [])) (λ l. old.lits ≡ new.lits ++ l ∷ []) → IsTrail new entries
+pub trail-popped : (old new : AssumedLiterals) (entries : List Entry) (e : Entry) (o : Option Literal) → IsTrail old (entries ++ e ∷ []) → new.vars ≡ old.vars → MatchOption o ((old.lits ≡ []) × (new.lits ≡ [])) (λ l. old.lits ≡ new.lits ++ l ∷ []) → IsTrail new entries
 trail-popped old new entries e None t vars lits = absurd (some-last (literals entries) e.lit (sym lits.0 ∙ t.lits ∙ literals-push entries e))
 trail-popped old new entries e (Some l) t vars lits = trail-pop old new entries e l t vars lits
 

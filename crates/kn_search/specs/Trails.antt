@@ -8,7 +8,7 @@ use Rattle.kn_logic.specs.Constraints.{Bounded}
 use Rattle.kn_logic.specs.Propagation.{after_hint, Forces}
 use Rattle.kn_rules.specs.declared.given.Given.{Given}
 use Rattle.kn_rules.specs.States.{live_at}
-use Rattle.kn_rules.specs.Marks.{Assumed}
+use Rattle.kn_rules.specs.Marks.{AssumedLiterals}
 use Rattle.kn_search.specs.declared.trail.Entry.{Entry}
 
 -- the entries of a trail over so many variables
@@ -20,7 +20,7 @@ abbrev pub literals : List Entry → List Literal
 literals entries = map (λ e. e.lit) entries
 
 -- What a trail keeps, beside its entries, to look literals up.
-pub record IsTrail (assumed : Assumed) (entries : List Entry) : Type 0 where
+pub record IsTrail (assumed : AssumedLiterals) (entries : List Entry) : Type 0 where
   pub lits : assumed.lits ≡ literals entries
   pub known : AreKnown assumed.vars (literals entries)
   pub different : AreDifferent (literals entries)

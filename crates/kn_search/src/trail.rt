@@ -19,7 +19,7 @@ pub struct Entry {
 /// of them are of one variable.
 #[derive(Debug, Drop)]
 pub struct Trail {
-    assumed: kn_rules::Trail,
+    assumed: kn_rules::Assumed,
     entries: Vec<Entry>,
 }
 
@@ -39,7 +39,7 @@ impl Trail {
         ensures { IfOk result (λ t. t ≡ record { vars = vars; entries = [] }) }
     {
         Ok(Trail {
-            assumed: kn_rules::Trail::new(alloc, vars)?,
+            assumed: kn_rules::Assumed::new(alloc, vars)?,
             entries: Vec::new(alloc),
         })
     }

@@ -1,23 +1,25 @@
 -- Where nothing is in its way, what the program answers is what the texts say.
-use Rattle.std.proofs.Common.{◌≡◌, ◌+◌, ◌-◌, ◌^◌, ◌<◌, ◌≤◌, ◌++◌, List, ℕ, length, Option, Some, None, append-nil, length-append, ap, sym, ◌∙◌, subst, arith, codes, ◌∷◌, [], ◌⊎◌, inl, inr}
+use Rattle.std.proofs.Common.{◌≡◌, ◌+◌, ◌-◌, ◌^◌, ◌<◌, ◌≤◌, ◌++◌, List, ℕ, length, Option, Some, None, append-nil, length-append, refl, ap, sym, ◌∙◌, subst, arith, inl, inr}
 use Rattle.kn_bytes.specs.Outside.{Gave, HasEnded, Rose}
-use Rattle.kn_tool.specs.declared.files.TheConstants.{MAX_BYTES}
-use Rattle.kn_tool.specs.declared.answer.Which.TheVariants.{Formula, Proof, Out}
-use Rattle.kn_tool.specs.declared.answer.Answer.{Answer}
-use Rattle.kn_tool.specs.declared.answer.Answer.TheVariants.{Model, Refuted, Unknown, Done, Verified, NotVerified, Refused, TooLong, Usage, ReadFault, WriteFault, NoMemory}
+use Rattle.kn_logic.specs.Formulas.{Problem}
 use Rattle.kn_format.specs.Grammar.{Spells, SpellsNone}
 use Rattle.kn_format.specs.Faults.{IsFirstFault, refusal}
-use Rattle.kn_logic.specs.Formulas.{Problem}
 use Rattle.kn_rules.specs.Proofs.{IsProof, IsFirstWrong, fault}
-use Rattle.kn_tool.specs.Words.{check, solve, convert, HasShape}
-use Rattle.kn_tool.specs.Answers.{answer_text}
-use Rattle.kn_tool.specs.Changes.{Change, Source, Sink, Untouched, GivesAll, GivesTooMany, NoFault}
-use Rattle.kn_tool.specs.Files.{Accepts, Rejects}
-use Rattle.kn_tool.specs.Checks.{CheckRow}
-use Rattle.kn_tool.specs.Solves.{SolveRow}
-use Rattle.kn_tool.specs.Conversions.{ConvertRow}
-use Rattle.kn_tool.specs.Outcomes.{Files, IsCheck, IsSolve, IsConvert, IsSolveWithin, Row, Stops, Tells}
-use Rattle.kn_tool.specs.Complete.{IsSound, IsQuiet, Decides, Concludes, Converts}
+use Rattle.kn_tool.specs.declared.answer.Answer.{Answer}
+use Rattle.kn_tool.specs.declared.answer.Answer.TheVariants.{Refused, NoMemory}
+use Rattle.kn_tool.specs.Words.{Asked, check, solve, convert, HasShape, AsksFor}
+use Rattle.kn_tool.proofs.Shapes.{one_command}
+use Rattle.kn_tool.specs.Changes.{Change, Source, Sink, GivesAll, GivesTooMany, NoFault, IsSound, IsQuiet, most_bytes}
+use Rattle.kn_tool.specs.Files as files
+use Rattle.kn_tool.specs.Files.{Accepts, Rejects, NoFormulaRow}
+use Rattle.kn_tool.specs.Checks as checks
+use Rattle.kn_tool.specs.Checks.{CheckRow, Decides}
+use Rattle.kn_tool.specs.Solves as solves
+use Rattle.kn_tool.specs.Solves.{SolveRow, Concludes}
+use Rattle.kn_tool.specs.Conversions as conversions
+use Rattle.kn_tool.specs.Conversions.{ConvertRow, ConvertedRow, Converts}
+use Rattle.kn_tool.specs.Outcomes as outcomes
+use Rattle.kn_tool.specs.Outcomes.{Files, RowOf, Told, CompleteOf}
 
 -- a source that told what it had left gave just that
 gave_all : (old new : Option (List ℕ)) (told bytes : List ℕ) → old ≡ Some told → Gave old new bytes → HasEnded new → bytes ≡ told
@@ -39,8 +41,8 @@ gave_within old (Some rest) told bytes is gave =
 not_too_long : (s : Change Source) (told : List ℕ) → IsSound s told → (bytes : List ℕ) × GivesTooMany s bytes → ⊥
 not_too_long s told sound (bytes, many) =
     let most : length bytes ≤ length told = gave_within s.old.left s.new.left told bytes sound.told many.gives.gave in
-    let beyond : length bytes ≡ MAX_BYTES + 1 = many.beyond in
-    let within : length told ≤ MAX_BYTES = sound.within in
+    let beyond : length bytes ≡ most_bytes + 1 = many.beyond in
+    let within : length told ≤ most_bytes = sound.within in
     omega arith
 
 no_rise : (old new : ℕ) → NoFault old new → Rose old new → ⊥
@@ -54,192 +56,65 @@ refused s text line why sound rejects =
     let is = all_told s text rejects.text sound.told rejects.whole in
     (subst (λ t. IsFirstFault t (refusal line why)) is rejects.first, subst SpellsNone is rejects.none)
 
--- no words ask for two commands
-same_first : (a b : ℕ) (more rest : List ℕ) → a ∷ more ≡ b ∷ rest → a ≡ b
-same_first a b more rest is = cc
+-- a sound file that gave no formula spells none, unless memory is short
+no_formula : (P : Answer → Type 0) (s : Change Source) (text : List ℕ) (answer : Answer) (told : Option (List ℕ)) → IsSound s text
+    → ((line why : ℕ) → IsFirstFault text (refusal line why) × SpellsNone text → P (Refused line why)) → P NoMemory → NoFormulaRow s answer told → P answer
+no_formula P s text answer told sound fault short (files.unread (files.too_long many)) = absurd (not_too_long s text sound many)
+no_formula P s text answer told sound fault short (files.unread (files.fails faults)) = absurd (no_rise _ _ sound.quiet faults.rose)
+no_formula P s text answer told sound fault short (files.unread files.no_memory) = short
+no_formula P s text answer told sound fault short (files.refused {line = line} {why = why} rejects) = fault line why (refused s text line why sound rejects)
 
-check_or_solve : (name : List ℕ) → name ≡ codes "check" → name ≡ codes "solve" → ⊥
-check_or_solve name is also =
-    let first : ◌≡◌ {A = ℕ} 99 115 = same_first 99 115 (codes "heck") (codes "olve") (sym is ∙ also) in
-    omega arith
+check_complete : (formula proof : Change Source) (text more : List ℕ) (answer : Answer) (told : Option (List ℕ)) → IsSound formula text → IsSound proof more
+    → CheckRow formula proof answer told → Decides text more answer
+check_complete formula proof text more answer told sound also (files.accepted f accepts (checks.verified proves)) =
+    (f, spelled formula text f sound accepts, subst (IsProof f) (all_told proof more proves.text also.told proves.whole) proves.accepted)
+check_complete formula proof text more answer told sound also (files.accepted f accepts (checks.not_verified {line = line} {why = why} fails)) =
+    (f, spelled formula text f sound accepts, subst (λ t. IsFirstWrong f t (fault line why)) (all_told proof more fails.text also.told fails.whole) fails.wrong)
+check_complete formula proof text more answer told sound also (files.accepted f accepts (checks.unread (files.too_long many))) = absurd (not_too_long proof more also many)
+check_complete formula proof text more answer told sound also (files.accepted f accepts (checks.unread (files.fails faults))) = absurd (no_rise _ _ also.quiet faults.rose)
+check_complete formula proof text more answer told sound also (files.accepted f accepts (checks.unread files.no_memory)) = tt
+check_complete formula proof text more answer told sound also (files.accepted f accepts checks.no_memory) = tt
+check_complete formula proof text more answer told sound also (files.no_formula none same) =
+    no_formula (Decides text more) formula text answer told sound (λ line why known. known) tt none
 
-check_and_solve : (words : List (List ℕ)) (f p g q : List ℕ) (conflicts forget : ℕ) → HasShape words (check f p) → HasShape words (solve g q conflicts forget) → ⊥
-check_and_solve [] f p g q conflicts forget one other = one
-check_and_solve (a ∷ []) f p g q conflicts forget one other = one
-check_and_solve (a ∷ b ∷ []) f p g q conflicts forget one other = one
-check_and_solve (a ∷ b ∷ c ∷ []) f p g q conflicts forget one other = check_or_solve a one.0 other.0
-check_and_solve (a ∷ b ∷ c ∷ d ∷ more) f p g q conflicts forget one other = one
+solve_complete : (budget : ℕ) (formula : Change Source) (proof : Change Sink) (text : List ℕ) (answer : Answer) (told : Option (List ℕ)) → IsSound formula text → IsQuiet proof
+    → SolveRow budget formula proof answer told → Concludes text answer
+solve_complete budget formula proof text answer told sound quiet (files.accepted f accepts (solves.model values bytes writes holds)) = (f, spelled formula text f sound accepts)
+solve_complete budget formula proof text answer told sound quiet (files.accepted f accepts (solves.refuted bytes writes is_proof none)) = (f, spelled formula text f sound accepts)
+solve_complete budget formula proof text answer told sound quiet (files.accepted f accepts (solves.unknown bytes writes spent)) = (f, spelled formula text f sound accepts)
+solve_complete budget formula proof text answer told sound quiet (files.accepted f accepts (solves.no_memory front)) = tt
+solve_complete budget formula proof text answer told sound quiet (files.accepted f accepts (solves.fails rose front)) = no_rise _ _ quiet rose
+solve_complete budget formula proof text answer told sound quiet (files.no_formula none same) =
+    no_formula (Concludes text) formula text answer told sound (λ line why known. known) tt none
 
-check_and_convert : (words : List (List ℕ)) (f p g : List ℕ) → HasShape words (check f p) → HasShape words (convert g) → ⊥
-check_and_convert [] f p g one other = one
-check_and_convert (a ∷ []) f p g one other = one
-check_and_convert (a ∷ b ∷ []) f p g one other = one
-check_and_convert (a ∷ b ∷ c ∷ more) f p g one other = other
+converted_complete : (s : Change Source) (text : List ℕ) (f : Problem) (answer : Answer) (told : Option (List ℕ)) → Spells text f → ConvertedRow f answer told → Converts text answer
+converted_complete s text f answer told spells (conversions.done countable same) = (f, spells, countable)
+converted_complete s text f answer told spells (conversions.too_large large) = inr (refl, refl, (f, spells, large))
+converted_complete s text f answer told spells conversions.no_memory = tt
 
-solve_and_convert : (words : List (List ℕ)) (f p g : List ℕ) (conflicts forget : ℕ) → HasShape words (solve f p conflicts forget) → HasShape words (convert g) → ⊥
-solve_and_convert [] f p g conflicts forget one other = one
-solve_and_convert (a ∷ []) f p g conflicts forget one other = one
-solve_and_convert (a ∷ b ∷ []) f p g conflicts forget one other = one
-solve_and_convert (a ∷ b ∷ c ∷ more) f p g conflicts forget one other = other
+convert_complete : (formula : Change Source) (text : List ℕ) (answer : Answer) (told : Option (List ℕ)) → IsSound formula text → ConvertRow formula answer told → Converts text answer
+convert_complete formula text answer told sound (files.accepted f accepts row) = converted_complete formula text f answer told (spelled formula text f sound accepts) row
+convert_complete formula text answer told sound (files.no_formula none same) =
+    no_formula (Converts text) formula text answer told sound (λ line why known. inl known) tt none
 
-not_check_solve : (words : List (List ℕ)) → IsCheck words → IsSolve words → ⊥
-not_check_solve words (f, p, one) (budget, (g, q, forget, other)) = check_and_solve words f p g q budget forget one other
+-- whatever was told
+row_complete : (asked : Asked) (all : Files) (out : Change Sink) (answer : Answer) (told : Option (List ℕ)) → RowOf (Some asked) all answer told → CompleteOf asked all out answer
+row_complete (check f p) all out answer told row = λ text more sound also quiet. check_complete all.formula all.proof_in text more answer told sound also row
+row_complete (solve f p conflicts forget) all out answer told row = λ text sound proof_quiet quiet. solve_complete conflicts all.formula all.proof_out text answer told sound proof_quiet row
+row_complete (convert f) all out answer told row = λ text sound quiet. convert_complete all.formula text answer told sound row
 
-not_check_convert : (words : List (List ℕ)) → IsCheck words → IsConvert words → ⊥
-not_check_convert words (f, p, one) (g, other) = check_and_convert words f p g one other
+-- writing did not fail
+never_cut : (asked : Asked) (all : Files) (out : Change Sink) (answer : Answer) → Rose out.old.faults out.new.faults → CompleteOf asked all out answer
+never_cut (check f p) all out answer rose = λ text more sound also quiet. absurd (no_rise _ _ quiet rose)
+never_cut (solve f p conflicts forget) all out answer rose = λ text sound proof_quiet quiet. absurd (no_rise _ _ quiet rose)
+never_cut (convert f) all out answer rose = λ text sound quiet. absurd (no_rise _ _ quiet rose)
 
-not_solve_convert : (words : List (List ℕ)) → IsSolve words → IsConvert words → ⊥
-not_solve_convert words (budget, (f, p, forget, one)) (g, other) = solve_and_convert words f p g budget forget one other
+of_command : (asked : Asked) (all : Files) (out : Change Sink) (answer : Answer) → Told (RowOf (Some asked) all) out answer → CompleteOf asked all out answer
+of_command asked all out answer (outcomes.whole text row got) = row_complete asked all out answer (Some text) row
+of_command asked all out answer (outcomes.silent row same) = row_complete asked all out answer None row
+of_command asked all out answer (outcomes.cut meant text row rose got) = never_cut asked all out answer rose
 
--- `check`
-row_decides : (formula proof : Change Source) (text more : List ℕ) (answer : Answer) → CheckRow formula proof answer → IsSound formula text → IsSound proof more → Decides text more answer
-row_decides formula proof text more Model row sound sound_too = absurd row
-row_decides formula proof text more Refuted row sound sound_too = absurd row
-row_decides formula proof text more (Unknown learned) row sound sound_too = absurd row
-row_decides formula proof text more Done row sound sound_too = absurd row
-row_decides formula proof text more Verified row sound sound_too =
-    (row.f, spelled formula text row.f sound row.accepts, subst (IsProof row.f) (all_told proof more row.text sound_too.told row.whole) row.accepted)
-row_decides formula proof text more (NotVerified line why) row sound sound_too =
-    (row.f, spelled formula text row.f sound row.accepts, subst (λ t. IsFirstWrong row.f t (fault line why)) (all_told proof more row.text sound_too.told row.whole) row.wrong)
-row_decides formula proof text more (Refused line why) row sound sound_too = refused formula text line why sound row.0
-row_decides formula proof text more (TooLong Formula) row sound sound_too = absurd (not_too_long formula text sound row.0)
-row_decides formula proof text more (TooLong Proof) row sound sound_too = absurd (not_too_long proof more sound_too row.1)
-row_decides formula proof text more (TooLong Out) row sound sound_too = absurd row
-row_decides formula proof text more Usage row sound sound_too = absurd row
-row_decides formula proof text more (ReadFault Formula) row sound sound_too = absurd (no_rise _ _ sound.quiet row.0.rose)
-row_decides formula proof text more (ReadFault Proof) row sound sound_too = absurd (no_rise _ _ sound_too.quiet row.1.rose)
-row_decides formula proof text more (ReadFault Out) row sound sound_too = absurd row
-row_decides formula proof text more (WriteFault which) row sound sound_too = absurd row
-row_decides formula proof text more NoMemory row sound sound_too = tt
-
--- `solve`
-row_concludes : (budget : ℕ) (formula : Change Source) (proof : Change Sink) (text told : List ℕ) (answer : Answer) → SolveRow budget formula proof answer told → IsSound formula text → Concludes text answer
-row_concludes budget formula proof text told Model row sound = (row.0, spelled formula text row.0 sound row.2)
-row_concludes budget formula proof text told Refuted row sound = (row.0, spelled formula text row.0 sound row.2)
-row_concludes budget formula proof text told (Unknown learned) row sound = (row.0, spelled formula text row.0 sound row.2)
-row_concludes budget formula proof text told Done row sound = absurd row
-row_concludes budget formula proof text told Verified row sound = absurd row
-row_concludes budget formula proof text told (NotVerified line why) row sound = absurd row
-row_concludes budget formula proof text told (Refused line why) row sound = refused formula text line why sound row.0
-row_concludes budget formula proof text told (TooLong Formula) row sound = absurd (not_too_long formula text sound row.0)
-row_concludes budget formula proof text told (TooLong Proof) row sound = absurd row
-row_concludes budget formula proof text told (TooLong Out) row sound = absurd row
-row_concludes budget formula proof text told Usage row sound = absurd row
-row_concludes budget formula proof text told (ReadFault Formula) row sound = absurd (no_rise _ _ sound.quiet row.0.rose)
-row_concludes budget formula proof text told (ReadFault Proof) row sound = absurd row
-row_concludes budget formula proof text told (ReadFault Out) row sound = absurd row
-row_concludes budget formula proof text told (WriteFault which) row sound = absurd row
-row_concludes budget formula proof text told NoMemory row sound = absurd row
-
--- `convert`
-row_converts : (formula : Change Source) (text told : List ℕ) (answer : Answer) → ConvertRow formula answer told → IsSound formula text → Converts text answer
-row_converts formula text told Model row sound = absurd row
-row_converts formula text told Refuted row sound = absurd row
-row_converts formula text told (Unknown learned) row sound = absurd row
-row_converts formula text told Done row sound = (row.0, spelled formula text row.0 sound row.1, row.2)
-row_converts formula text told Verified row sound = absurd row
-row_converts formula text told (NotVerified line why) row sound = absurd row
-row_converts formula text told (Refused line why) row sound = elim row.0 [
-  | inl rejects ↦ inl (refused formula text line why sound rejects)
-  | inr large ↦ inr (large.0, large.1, (large.2.0, spelled formula text large.2.0 sound large.2.1, large.2.2))
-]
-row_converts formula text told (TooLong Formula) row sound = absurd (not_too_long formula text sound row.0)
-row_converts formula text told (TooLong Proof) row sound = absurd row
-row_converts formula text told (TooLong Out) row sound = absurd row
-row_converts formula text told Usage row sound = absurd row
-row_converts formula text told (ReadFault Formula) row sound = absurd (no_rise _ _ sound.quiet row.0.rose)
-row_converts formula text told (ReadFault Proof) row sound = absurd row
-row_converts formula text told (ReadFault Out) row sound = absurd row
-row_converts formula text told (WriteFault which) row sound = absurd row
-row_converts formula text told NoMemory row sound = absurd row
-
--- the row of an answer that is told, whichever command the words ask for
-abbrev Told : List (List ℕ) → Files → Answer → Type 0
-Told words files answer =
-    (text : List ℕ) × ((IsCheck words × CheckRow files.formula files.proof_in answer × Untouched files.proof_out × (text ≡ answer_text answer))
-    ⊎ ((budget : ℕ) × IsSolveWithin words budget × SolveRow budget files.formula files.proof_out answer text × Untouched files.proof_in)
-    ⊎ (IsConvert words × ConvertRow files.formula answer text × Untouched files.proof_in × Untouched files.proof_out))
-
-told_decides : (words : List (List ℕ)) (files : Files) (text more : List ℕ) (answer : Answer) → Told words files answer → IsCheck words → IsSound files.formula text → IsSound files.proof_in more → Decides text more answer
-told_decides words files text more answer told asked sound sound_too = elim told.1 [
-  | inl row ↦ row_decides files.formula files.proof_in text more answer row.1 sound sound_too
-  | inr other ↦ elim other [
-    | inl row ↦ absurd (not_check_solve words asked (row.0, row.1))
-    | inr row ↦ absurd (not_check_convert words asked row.0)
-  ]
-]
-
-told_concludes : (words : List (List ℕ)) (files : Files) (text : List ℕ) (answer : Answer) → Told words files answer → IsSolve words → IsSound files.formula text → Concludes text answer
-told_concludes words files text answer told asked sound = elim told.1 [
-  | inl row ↦ absurd (not_check_solve words row.0 asked)
-  | inr other ↦ elim other [
-    | inl row ↦ row_concludes row.0 files.formula files.proof_out text told.0 answer row.2 sound
-    | inr row ↦ absurd (not_solve_convert words asked row.0)
-  ]
-]
-
-told_converts : (words : List (List ℕ)) (files : Files) (text : List ℕ) (answer : Answer) → Told words files answer → IsConvert words → IsSound files.formula text → Converts text answer
-told_converts words files text answer told asked sound = elim told.1 [
-  | inl row ↦ absurd (not_check_convert words row.0 asked)
-  | inr other ↦ elim other [
-    | inl row ↦ absurd (not_solve_convert words (row.0, row.1) asked)
-    | inr row ↦ row_converts files.formula text told.0 answer row.1 sound
-  ]
-]
-
-pub decides : (words : List (List ℕ)) (files : Files) (out : Change Sink) (answer : Answer) → Tells (Row words files) (Stops words files) out answer → (text more : List ℕ) → IsCheck words → IsSound files.formula text → IsSound files.proof_in more → IsQuiet out → Decides text more answer
-decides words files out Model told text more asked sound sound_too quiet = told_decides words files text more Model (told.0, told.1) asked sound sound_too
-decides words files out Refuted told text more asked sound sound_too quiet = told_decides words files text more Refuted (told.0, told.1) asked sound sound_too
-decides words files out (Unknown learned) told text more asked sound sound_too quiet = told_decides words files text more (Unknown learned) (told.0, told.1) asked sound sound_too
-decides words files out Done told text more asked sound sound_too quiet = told_decides words files text more Done (told.0, told.1) asked sound sound_too
-decides words files out Verified told text more asked sound sound_too quiet = told_decides words files text more Verified (told.0, told.1) asked sound sound_too
-decides words files out (NotVerified line why) told text more asked sound sound_too quiet = told_decides words files text more (NotVerified line why) (told.0, told.1) asked sound sound_too
-decides words files out (Refused line why) told text more asked sound sound_too quiet = told_decides words files text more (Refused line why) (told.0, told.1) asked sound sound_too
-decides words files out (TooLong which) told text more asked sound sound_too quiet = told_decides words files text more (TooLong which) (told.0, told.1) asked sound sound_too
-decides words files out Usage told text more asked sound sound_too quiet = told.1.0 (check asked.0 asked.1) asked.2
-decides words files out (ReadFault which) told text more asked sound sound_too quiet = told_decides words files text more (ReadFault which) (told.0, told.1) asked sound sound_too
-decides words files out (WriteFault Formula) told text more asked sound sound_too quiet = told
-decides words files out (WriteFault Proof) told text more asked sound sound_too quiet = elim told.0 [
-  | inl short ↦ (let wrong = short.0 in absurd cc)
-  | inr other ↦ elim other [ inl solved ↦ absurd (not_check_solve words asked solved.0) | inr converted ↦ (let wrong = converted.0 in absurd cc) ]
-]
-decides words files out (WriteFault Out) told text more asked sound sound_too quiet = no_rise _ _ quiet told.0
-decides words files out NoMemory told text more asked sound sound_too quiet = tt
-
-pub concludes : (words : List (List ℕ)) (files : Files) (out : Change Sink) (answer : Answer) → Tells (Row words files) (Stops words files) out answer → (text : List ℕ) → IsSolve words → IsSound files.formula text → IsQuiet files.proof_out → IsQuiet out → Concludes text answer
-concludes words files out Model told text asked sound proof_quiet quiet = told_concludes words files text Model (told.0, told.1) asked sound
-concludes words files out Refuted told text asked sound proof_quiet quiet = told_concludes words files text Refuted (told.0, told.1) asked sound
-concludes words files out (Unknown learned) told text asked sound proof_quiet quiet = told_concludes words files text (Unknown learned) (told.0, told.1) asked sound
-concludes words files out Done told text asked sound proof_quiet quiet = told_concludes words files text Done (told.0, told.1) asked sound
-concludes words files out Verified told text asked sound proof_quiet quiet = told_concludes words files text Verified (told.0, told.1) asked sound
-concludes words files out (NotVerified line why) told text asked sound proof_quiet quiet = told_concludes words files text (NotVerified line why) (told.0, told.1) asked sound
-concludes words files out (Refused line why) told text asked sound proof_quiet quiet = told_concludes words files text (Refused line why) (told.0, told.1) asked sound
-concludes words files out (TooLong which) told text asked sound proof_quiet quiet = told_concludes words files text (TooLong which) (told.0, told.1) asked sound
-concludes words files out Usage told text asked sound proof_quiet quiet = told.1.0 (solve asked.1.0 asked.1.1 asked.0 asked.1.2) asked.1.3
-concludes words files out (ReadFault which) told text asked sound proof_quiet quiet = told_concludes words files text (ReadFault which) (told.0, told.1) asked sound
-concludes words files out (WriteFault Formula) told text asked sound proof_quiet quiet = told
-concludes words files out (WriteFault Proof) told text asked sound proof_quiet quiet = elim told.0 [
-  | inl short ↦ (let wrong = short.0 in absurd cc)
-  | inr other ↦ elim other [ inl solved ↦ no_rise _ _ proof_quiet solved.1.0 | inr converted ↦ (let wrong = converted.0 in absurd cc) ]
-]
-concludes words files out (WriteFault Out) told text asked sound proof_quiet quiet = no_rise _ _ quiet told.0
-concludes words files out NoMemory told text asked sound proof_quiet quiet = tt
-
-pub converts : (words : List (List ℕ)) (files : Files) (out : Change Sink) (answer : Answer) → Tells (Row words files) (Stops words files) out answer → (text : List ℕ) → IsConvert words → IsSound files.formula text → IsQuiet out → Converts text answer
-converts words files out Model told text asked sound quiet = told_converts words files text Model (told.0, told.1) asked sound
-converts words files out Refuted told text asked sound quiet = told_converts words files text Refuted (told.0, told.1) asked sound
-converts words files out (Unknown learned) told text asked sound quiet = told_converts words files text (Unknown learned) (told.0, told.1) asked sound
-converts words files out Done told text asked sound quiet = told_converts words files text Done (told.0, told.1) asked sound
-converts words files out Verified told text asked sound quiet = told_converts words files text Verified (told.0, told.1) asked sound
-converts words files out (NotVerified line why) told text asked sound quiet = told_converts words files text (NotVerified line why) (told.0, told.1) asked sound
-converts words files out (Refused line why) told text asked sound quiet = told_converts words files text (Refused line why) (told.0, told.1) asked sound
-converts words files out (TooLong which) told text asked sound quiet = told_converts words files text (TooLong which) (told.0, told.1) asked sound
-converts words files out Usage told text asked sound quiet = told.1.0 (convert asked.0) asked.1
-converts words files out (ReadFault which) told text asked sound quiet = told_converts words files text (ReadFault which) (told.0, told.1) asked sound
-converts words files out (WriteFault Formula) told text asked sound quiet = told
-converts words files out (WriteFault Proof) told text asked sound quiet = elim told.0 [
-  | inl short ↦ (let wrong = short.0 in absurd cc)
-  | inr other ↦ elim other [ inl solved ↦ absurd (not_solve_convert words solved.0 asked) | inr converted ↦ (let wrong = converted.0 in absurd cc) ]
-]
-converts words files out (WriteFault Out) told text asked sound quiet = no_rise _ _ quiet told.0
-converts words files out NoMemory told text asked sound quiet = tt
+pub complete : (words : List (List ℕ)) (request : Option Asked) (all : Files) (out : Change Sink) (answer : Answer) → AsksFor words request → Told (RowOf request all) out answer
+    → (asked : Asked) → HasShape words asked → CompleteOf asked all out answer
+complete words None all out answer none told asked shape = absurd (none asked shape)
+complete words (Some a) all out answer is told asked shape = subst (λ b. CompleteOf b all out answer) (one_command words a asked is shape) (of_command a all out answer told)

@@ -1,72 +1,81 @@
--- What the three answers of `solve` say.
-use Rattle.std.proofs.Common.{◌≡◌, ℕ, List, ap, sym, ◌∙◌, subst, inl, inr}
+-- What the rows of each command say at the answers of the headline.
+use Rattle.std.proofs.Common.{◌≡◌, ℕ, List, Option, Some, None, refl, subst}
 use Rattle.kn_bytes.specs.Outside.{Got}
+use Rattle.kn_logic.specs.Formulas.{Problem}
+use Rattle.kn_tool.specs.declared.answer.Which.{Which}
+use Rattle.kn_tool.specs.declared.answer.Which.TheVariants.{Out}
 use Rattle.kn_tool.specs.declared.answer.Answer.{Answer}
-use Rattle.kn_tool.specs.declared.answer.Answer.TheVariants.{Model, Refuted, Unknown, Done}
-use Rattle.kn_logic.specs.Formulas.{Problem, IsFormula}
-use Rattle.kn_counter.proofs.Models.{model-extended, model-cut}
+use Rattle.kn_tool.specs.declared.answer.Answer.TheVariants.{Refused, TooLong, ReadFault, WriteFault, NoMemory}
+use Rattle.kn_tool.specs.Words.{Asked, check, solve, convert, HasShape, AsksFor}
+use Rattle.kn_tool.proofs.Shapes.{one_command}
 use Rattle.kn_tool.specs.Changes.{Change, Source, Sink}
-use Rattle.kn_tool.specs.Files.{Accepts}
-use Rattle.kn_tool.specs.Solves.{PrintsModel, Refutes, Exhausts}
-use Rattle.kn_tool.specs.Conversions.{PrintsClauses}
-use Rattle.kn_tool.specs.Outcomes.{Files, IsSolveWithin, Row, Stops, Tells}
+use Rattle.kn_tool.specs.Files as files
+use Rattle.kn_tool.specs.Files.{Accepts, NoFormulaRow, UnreadRow}
+use Rattle.kn_tool.specs.Checks as checks
+use Rattle.kn_tool.specs.Checks.{CheckRow, CheckHeadline}
+use Rattle.kn_tool.specs.Solves as solves
+use Rattle.kn_tool.specs.Solves.{SolveRow, SolveHeadline}
+use Rattle.kn_tool.specs.Conversions as conversions
+use Rattle.kn_tool.specs.Conversions.{ConvertRow, ConvertedRow, ConvertHeadline}
+use Rattle.kn_tool.specs.Outcomes as outcomes
+use Rattle.kn_tool.specs.Outcomes.{Files, RowOf, Told, HeadlineOf}
 
--- what is read is a formula
-is_formula : {s : Change Source} {f : Problem} → Accepts s f → IsFormula f
-is_formula accepts = accepts.spells.4.formula
+-- an answer where a source was not read, or gave no formula
+unread : (P : Answer → Type 0) (which : Which) (s : Change Source) (answer : Answer) (told : Option (List ℕ)) → P (TooLong which) → P (ReadFault which) → P NoMemory → UnreadRow which s answer told → P answer
+unread P which s answer told long fault short (files.too_long many) = long
+unread P which s answer told long fault short (files.fails faults) = fault
+unread P which s answer told long fault short files.no_memory = short
 
-pub model : (words : List (List ℕ)) (files : Files) (out : Change Sink) (answer : Answer) → Tells (Row words files) (Stops words files) out answer → answer ≡ Model → PrintsModel files.formula out
-model words files out answer told is = said (subst (Tells (Row words files) (Stops words files) out) is told) where
-  said : Tells (Row words files) (Stops words files) out Model → PrintsModel files.formula out
-  said (text, row, got) = elim row [
-    | inl checked ↦ absurd checked.1
-    | inr other ↦ elim other [
-      | inl solved ↦ (
-          let found = solved.2 in
-          (found.0, found.3.1.0, found.2, found.3.1.1, subst (Got out.old.written out.new.written) found.3.1.2 got)
-          )
-      | inr converted ↦ absurd converted.1
-    ]
-  ]
+no_formula : (P : Answer → Type 0) (s : Change Source) (answer : Answer) (told : Option (List ℕ)) → ((which : Which) → P (TooLong which)) → ((which : Which) → P (ReadFault which)) → P NoMemory → ((line why : ℕ) → P (Refused line why)) → NoFormulaRow s answer told → P answer
+no_formula P s answer told long fault short refused (files.unread row) = unread P _ s answer told (long _) (fault _) short row
+no_formula P s answer told long fault short refused (files.refused {line = line} {why = why} rejects) = refused line why
 
-pub refuted : (words : List (List ℕ)) (files : Files) (out : Change Sink) (answer : Answer) → Tells (Row words files) (Stops words files) out answer → answer ≡ Refuted → Refutes files.formula files.proof_out
-refuted words files out answer told is = said (subst (Tells (Row words files) (Stops words files) out) is told) where
-  said : Tells (Row words files) (Stops words files) out Refuted → Refutes files.formula files.proof_out
-  said (text, row, got) = elim row [
-    | inl checked ↦ absurd checked.1
-    | inr other ↦ elim other [
-      | inl solved ↦ (
-          let found = solved.2 in
-          (found.0, found.1, found.2, found.3.0.got, found.3.1, found.3.2)
-          )
-      | inr converted ↦ absurd converted.1
-    ]
-  ]
+check_headline : (formula proof : Change Source) (answer : Answer) (told : Option (List ℕ)) → CheckRow formula proof answer told → CheckHeadline formula proof answer
+check_headline formula proof answer told (files.accepted f accepts (checks.verified proves)) = (f, accepts, proves)
+check_headline formula proof answer told (files.accepted f accepts (checks.not_verified fails)) = tt
+check_headline formula proof answer told (files.accepted f accepts (checks.unread row)) = unread (CheckHeadline formula proof) _ proof answer told tt tt tt row
+check_headline formula proof answer told (files.accepted f accepts checks.no_memory) = tt
+check_headline formula proof answer told (files.no_formula none same) = no_formula (CheckHeadline formula proof) formula answer told (λ w. tt) (λ w. tt) tt (λ line why. tt) none
 
-pub unknown : (words : List (List ℕ)) (files : Files) (out : Change Sink) (answer : Answer) → Tells (Row words files) (Stops words files) out answer → (learned : ℕ) → answer ≡ Unknown learned → IsSolveWithin words learned × Exhausts learned files.formula files.proof_out
-unknown words files out answer told learned is = said (subst (Tells (Row words files) (Stops words files) out) is told) where
-  said : Tells (Row words files) (Stops words files) out (Unknown learned) → IsSolveWithin words learned × Exhausts learned files.formula files.proof_out
-  said (text, row, got) = elim row [
-    | inl checked ↦ absurd checked.1
-    | inr other ↦ elim other [
-      | inl solved ↦ (
-          let found = solved.2 in
-          (subst (IsSolveWithin words) (sym found.3.1) solved.1, (found.0, found.1, found.2, found.3.0.got, found.3.0.steps, found.3.2))
-          )
-      | inr converted ↦ absurd converted.1
-    ]
-  ]
+-- the sink of the answers got the text, where there is one
+abbrev GotText : Change Sink → Option (List ℕ) → Type 0
+GotText out None = Unit {0}
+GotText out (Some text) = Got out.old.written out.new.written text
 
-pub done : (words : List (List ℕ)) (files : Files) (out : Change Sink) (answer : Answer) → Tells (Row words files) (Stops words files) out answer → answer ≡ Done → PrintsClauses files.formula out
-done words files out answer told is = printed (subst (Tells (Row words files) (Stops words files) out) is told) where
-  printed : Tells (Row words files) (Stops words files) out Done → PrintsClauses files.formula out
-  printed (text, row, got) = elim row [
-    | inl checked ↦ absurd checked.1
-    | inr other ↦ elim other [
-      | inl solved ↦ absurd solved.2
-      | inr converted ↦ (
-          let found = converted.1 in
-          (found.0, found.1, subst (Got out.old.written out.new.written) found.3 got, record { extended = λ values h. model-extended found.0 (is_formula found.1) values h; cut = λ values h. model-cut found.0 (is_formula found.1) values h })
-          )
-    ]
-  ]
+solve_headline : (budget : ℕ) (formula : Change Source) (proof out : Change Sink) (answer : Answer) (told : Option (List ℕ)) → GotText out told → SolveRow budget formula proof answer told → SolveHeadline budget formula proof out answer
+solve_headline budget formula proof out answer told got (files.accepted f accepts (solves.model values bytes writes holds)) = (f, values, accepts, holds, got)
+solve_headline budget formula proof out answer told got (files.accepted f accepts (solves.refuted bytes writes is_proof none)) = (f, bytes, accepts, writes.got, is_proof, none)
+solve_headline budget formula proof out answer told got (files.accepted f accepts (solves.unknown bytes writes spent)) = (refl, (f, bytes, accepts, writes.got, writes.steps, spent))
+solve_headline budget formula proof out answer told got (files.accepted f accepts (solves.no_memory front)) = tt
+solve_headline budget formula proof out answer told got (files.accepted f accepts (solves.fails rose front)) = tt
+solve_headline budget formula proof out answer told got (files.no_formula none same) = no_formula (SolveHeadline budget formula proof out) formula answer told (λ w. tt) (λ w. tt) tt (λ line why. tt) none
+
+converted_headline : (formula : Change Source) (out : Change Sink) (f : Problem) (answer : Answer) (told : Option (List ℕ)) → Accepts formula f → GotText out told → ConvertedRow f answer told → ConvertHeadline formula out answer
+converted_headline formula out f answer told accepts got (conversions.done countable same) = (f, accepts, got, same)
+converted_headline formula out f answer told accepts got (conversions.too_large large) = tt
+converted_headline formula out f answer told accepts got conversions.no_memory = tt
+
+convert_headline : (formula : Change Source) (out : Change Sink) (answer : Answer) (told : Option (List ℕ)) → GotText out told → ConvertRow formula answer told → ConvertHeadline formula out answer
+convert_headline formula out answer told got (files.accepted f accepts row) = converted_headline formula out f answer told accepts got row
+convert_headline formula out answer told got (files.no_formula none same) = no_formula (ConvertHeadline formula out) formula answer told (λ w. tt) (λ w. tt) tt (λ line why. tt) none
+
+row_headline : (asked : Asked) (all : Files) (out : Change Sink) (answer : Answer) (told : Option (List ℕ)) → GotText out told → RowOf (Some asked) all answer told → HeadlineOf asked all out answer
+row_headline (check f p) all out answer told got row = check_headline all.formula all.proof_in answer told row
+row_headline (solve f p conflicts forget) all out answer told got row = solve_headline conflicts all.formula all.proof_out out answer told got row
+row_headline (convert f) all out answer told got row = convert_headline all.formula out answer told got row
+
+-- an answer that could not be written promises nothing
+cut_headline : (asked : Asked) (all : Files) (out : Change Sink) → HeadlineOf asked all out (WriteFault Out)
+cut_headline (check f p) all out = tt
+cut_headline (solve f p conflicts forget) all out = tt
+cut_headline (convert f) all out = tt
+
+of_command : (asked : Asked) (all : Files) (out : Change Sink) (answer : Answer) → Told (RowOf (Some asked) all) out answer → HeadlineOf asked all out answer
+of_command asked all out answer (outcomes.whole text row got) = row_headline asked all out answer (Some text) got row
+of_command asked all out answer (outcomes.silent row same) = row_headline asked all out answer None tt row
+of_command asked all out answer (outcomes.cut meant text row rose got) = cut_headline asked all out
+
+pub headline : (words : List (List ℕ)) (request : Option Asked) (all : Files) (out : Change Sink) (answer : Answer) → AsksFor words request → Told (RowOf request all) out answer
+    → (asked : Asked) → HasShape words asked → HeadlineOf asked all out answer
+headline words None all out answer none told asked shape = absurd (none asked shape)
+headline words (Some a) all out answer is told asked shape = subst (λ b. HeadlineOf b all out answer) (one_command words a asked is shape) (of_command a all out answer told)

@@ -1,6 +1,8 @@
 mod Examples
 pub mod Options
+pub mod Shapes
+pub mod Replies
+pub mod Readings
 pub mod Solved
-pub mod Rows
 pub mod Complete
 pub mod Headline

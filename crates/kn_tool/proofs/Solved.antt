@@ -1,7 +1,7 @@
 -- What was logged of a formula is a proof text as far as it goes, whatever the search answers.
-use Rattle.std.proofs.Common.{◌≡◌, ◌≤◌, ◌<◌, ◌+◌, ◌^◌, ◌++◌, ◌∷◌, Bool, true, List, ℕ, [], length, Option, refl, sym, ap, ◌∙◌, subst, inl, inr, append-nil, arith}
+use Rattle.std.proofs.Common.{◌≡◌, ◌≤◌, ◌<◌, ◌+◌, ◌^◌, ◌++◌, ◌∷◌, Bool, true, List, ℕ, [], length, Option, Some, None, refl, sym, ap, ◌∙◌, subst, append_assoc, append-nil, arith}
 use Rattle.kn_bytes.specs.Outside.{Rose, Got, GotPrefix}
-use Rattle.kn_bytes.proofs.Joined.{Got-append, Got-nil, GotPrefix-from_Got, GotPrefix-append}
+use Rattle.kn_bytes.proofs.Public.{Got-append, Got-nil, GotPrefix-from_Got, GotPrefix-append}
 use Rattle.kn_logic.specs.Formulas.{Problem, IsFormula, Satisfies}
 use Rattle.kn_lines.specs.declared.line.Line.{Line}
 use Rattle.kn_rules.specs.States.{ProofState, start}
@@ -17,12 +17,13 @@ use Rattle.kn_search.specs.declared.outcome.Outcome.TheVariants as outcome
 use Rattle.kn_search.specs.declared.outcome.SearchError.{SearchError}
 use Rattle.kn_search.specs.declared.outcome.SearchError.TheVariants as failure
 use Rattle.kn_tool.specs.declared.answer.Answer.{Answer}
-use Rattle.kn_tool.specs.declared.answer.Answer.TheVariants.{Model, Refuted, Unknown, Usage, NoMemory}
+use Rattle.kn_tool.specs.declared.answer.Answer.TheVariants.{Model, Refuted, Unknown, NoMemory}
 use Rattle.kn_tool.specs.declared.reply.Reply.{Reply}
 use Rattle.kn_tool.specs.declared.reply.Reply.TheVariants as reply
 use Rattle.kn_tool.specs.Answers.{answer_text}
 use Rattle.kn_tool.specs.Changes.{Change, Sink}
-use Rattle.kn_tool.specs.Solves.{IsStepping, Proves, GotSteps, SolvedRow, OutcomeSays, Finds, IsAnswerOf, IsReplyOf, IsSolvedReply, satisfiable_text}
+use Rattle.kn_tool.specs.Solves.{IsStepping, Writes, GotSteps, SolvedRow, model, refuted, unknown, no_memory, satisfiable_text}
+use Rattle.kn_tool.specs.Replies.{IsReply, OutcomeSays, Finds, IsAnswerOf, IsReplyOf}
 
 -- the formula is one whose header can be written
 pub record IsListed (f : Problem) : Type 0 where
@@ -100,24 +101,25 @@ outcome_found budget f p old new mid o h e =
       says budget f old new mid p.new.written o h.listed h.begun e e.tells,
     )
 
+-- bytes that step and were written whole are a prefix of bytes that step
+writes_prefix : (budget : ℕ) (f : Problem) (p : Change Sink) (bytes : List ℕ) → Writes budget f p bytes → GotSteps f p
+writes_prefix budget f p bytes h = (bytes, h.steps, (bytes, [], sym (append-nil bytes), h.got))
+
 -- the answer of an outcome
-row_of_outcome : (budget : ℕ) (f : Problem) (p : Change Sink) (bytes text : List ℕ) (o : Outcome) (answer : Answer) → IsFormula f → Proves budget f p bytes → OutcomeSays budget f bytes o → IsAnswerOf o answer text → SolvedRow budget f p bytes answer text
-row_of_outcome budget f p bytes text (outcome.Model values) answer fit proves said (is, told) =
-    subst (λ a. SolvedRow budget f p bytes a text) (sym is) (proves, (values, said, told))
-row_of_outcome budget f p bytes text outcome.Refuted answer fit proves said (is, told) =
-    subst (λ a. SolvedRow budget f p bytes a text) (sym is) (proves, said, proof-refutes f bytes fit said, told)
-row_of_outcome budget f p bytes text (outcome.Spent learned) answer fit proves said (is, told) =
-    subst (λ a. SolvedRow budget f p bytes a text) (sym is) (proves, said.0, said.1, told)
+row_of_outcome : (budget : ℕ) (f : Problem) (p : Change Sink) (bytes text : List ℕ) (o : Outcome) (answer : Answer) → IsFormula f → Writes budget f p bytes → OutcomeSays budget f bytes o → IsAnswerOf o answer text → SolvedRow budget p f answer (Some text)
+row_of_outcome budget f p bytes text (outcome.Model values) answer fit writes said (is, told) =
+    subst (λ a. SolvedRow budget p f a (Some text)) (sym is) (subst (λ t. SolvedRow budget p f Model (Some t)) (sym told) (model values bytes writes said))
+row_of_outcome budget f p bytes text outcome.Refuted answer fit writes said (is, told) =
+    subst (λ a. SolvedRow budget p f a (Some text)) (sym is) (subst (λ t. SolvedRow budget p f Refuted (Some t)) (sym told) (refuted bytes writes said (proof-refutes f bytes fit said)))
+row_of_outcome budget f p bytes text (outcome.Spent learned) answer fit writes said (is, told) =
+    subst (λ a. SolvedRow budget p f a (Some text)) (sym (is ∙ ap Unknown said.0))
+    (subst (λ t. SolvedRow budget p f (Unknown budget) (Some t)) (sym told) (unknown bytes writes (said.1 ∙ said.0)))
 
--- bytes that step and were written whole are a front of bytes that step
-pub proves_front : (budget : ℕ) (f : Problem) (p : Change Sink) (bytes : List ℕ) → Proves budget f p bytes → GotSteps f p
-proves_front budget f p bytes h = (bytes, h.steps, (bytes, [], sym (append-nil bytes), h.got))
-
-pub solved_reply : (budget : ℕ) (f : Problem) (p : Change Sink) (o : Outcome) (r : Reply) → IsFormula f → Finds budget f p o → IsReplyOf o r → IsSolvedReply budget f p r
-solved_reply budget f p o (reply.Text answer text) fit (bytes, proves, said) told = (bytes, row_of_outcome budget f p bytes text.items o answer fit proves said told)
+pub solved_reply : (budget : ℕ) (f : Problem) (p : Change Sink) (o : Outcome) (r : Reply) → IsFormula f → Finds budget f p o → IsReplyOf o r → IsReply (SolvedRow budget p f) r
+solved_reply budget f p o (reply.Text answer text) fit (bytes, writes, said) told = row_of_outcome budget f p bytes text.items o answer fit writes said told
 solved_reply budget f p o reply.Usage fit found told = absurd told
-solved_reply budget f p o (reply.Silent answer) fit (bytes, proves, said) told =
-    subst (λ a. IsSolvedReply budget f p (reply.Silent a)) (sym told) (inr (proves_front budget f p bytes proves))
+solved_reply budget f p o (reply.Silent answer) fit (bytes, writes, said) told =
+    subst (λ a. SolvedRow budget p f a None) (sym told) (no_memory (writes_prefix budget f p bytes writes))
 
 -- faults
 pub rose_further : (old mid new : ℕ) → old ≤ mid → Rose mid new → Rose old new

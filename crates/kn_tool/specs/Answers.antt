@@ -1,5 +1,5 @@
 -- What the program ends with: the status of each answer, and the text that it prints.
-use Rattle.std.specs.Prelude.{ℕ, List, [], ◌++◌, codes, decimal}
+use Rattle.std.specs.Prelude.{ℕ, List, [], ◌++◌, Option, Some, codes, decimal}
 use Rattle.kn_tool.specs.declared.answer.Which.{Which}
 use Rattle.kn_tool.specs.declared.answer.Which.TheVariants.{Formula, Proof, Out}
 use Rattle.kn_tool.specs.declared.answer.Answer.{Answer}
@@ -29,7 +29,7 @@ abbrev pub place_text : ℕ → ℕ → List ℕ
 place_text line why = codes "line " ++ decimal line ++ codes " cause " ++ decimal why ++ codes "\n"
 
 abbrev pub usage_text : List ℕ
-usage_text = codes "c usage: knf check F P | knf solve F P [--conflicts N] [--forget N] | knf extract F | knf convert F | knf work N\n"
+usage_text = codes "c usage: knf check F P | knf solve F P [--conflicts N] [--forget N] | knf extract F | knf convert F | knf work N | knf minimise F P [--conflicts N] | knf assume F P [--conflicts N] | knf trim F P\n"
 
 -- The text of a model goes on with the values; a command that is done prints what it made. The two last answers
 -- have no text.
@@ -46,3 +46,7 @@ answer_text Usage = usage_text
 answer_text (ReadFault which) = codes "c read fault " ++ which_text which ++ codes "\n"
 answer_text (WriteFault which) = []
 answer_text NoMemory = []
+
+-- what is told of an answer that has a text of its own
+abbrev pub own_text : Answer → Option (List ℕ)
+own_text answer = Some (answer_text answer)

@@ -1,14 +1,13 @@
--- What was read of the file of a formula.
-use Rattle.std.specs.Prelude.{ℕ, ◌≡◌, List}
+-- What was read of the file of a formula, and what is answered where there is none.
+use Rattle.std.specs.Prelude.{ℕ, ◌≡◌, List, Option, None}
 use Rattle.kn_logic.specs.Formulas.{Problem}
 use Rattle.kn_format.specs.Grammar.{Spells, SpellsNone}
 use Rattle.kn_format.specs.Faults.{IsFirstFault, refusal}
-use Rattle.kn_format.specs.declared.error.ReadError.{ReadError}
-use Rattle.kn_format.specs.declared.error.ReadError.TheVariants as faults
 use Rattle.kn_tool.specs.declared.answer.Which.{Which}
 use Rattle.kn_tool.specs.declared.answer.Which.TheVariants.{Formula}
 use Rattle.kn_tool.specs.declared.answer.Answer.{Answer}
 use Rattle.kn_tool.specs.declared.answer.Answer.TheVariants.{Refused, TooLong, ReadFault, NoMemory}
+use Rattle.kn_tool.specs.Answers.{own_text}
 use Rattle.kn_tool.specs.Changes.{Change, Source, GivesAll, ExceedsLimit, FaultsIn}
 
 -- The file of the formula was read whole, and spells this formula.
@@ -24,22 +23,23 @@ pub record Rejects (s : Change Source) (line why : ℕ) : Type 0 where
   pub first : IsFirstFault text (refusal line why)
   pub none : SpellsNone text
 
-abbrev pub IsAccepted : Change Source → Type 0
-IsAccepted s = (f : Problem) × Accepts s f
+-- A table of rows says which answer comes when, and with which text: none where nothing is told.
+abbrev pub Rows : Type 1
+Rows = Answer → Option (List ℕ) → Type 0
 
--- what an answer says of the one source from which reading failed
-abbrev pub ReadRow : Which → Change Source → Answer → Type 0
-ReadRow which source (TooLong other) = (other ≡ which) × ExceedsLimit source
-ReadRow which source (ReadFault other) = (other ≡ which) × FaultsIn source
-ReadRow which source NoMemory = Unit {0}
-ReadRow which source answer = ⊥
+-- the rows of a source that was not read whole
+pub data UnreadRow (which : Which) (s : Change Source) : Answer → Option (List ℕ) → Type 0 where
+  too_long : ExceedsLimit s → UnreadRow which s (TooLong which) (own_text (TooLong which))
+  fails : FaultsIn s → UnreadRow which s (ReadFault which) (own_text (ReadFault which))
+  no_memory : UnreadRow which s NoMemory None
 
--- what an answer says of the file of a formula that gave none
-abbrev pub FormulaRow : Change Source → Answer → Type 0
-FormulaRow source (Refused line why) = Rejects source line why
-FormulaRow source answer = ReadRow Formula source answer
+-- the rows of a file that gave no formula
+pub data NoFormulaRow (s : Change Source) : Answer → Option (List ℕ) → Type 0 where
+  unread : {answer : Answer} {told : Option (List ℕ)} → UnreadRow Formula s answer told → NoFormulaRow s answer told
+  refused : {line why : ℕ} → Rejects s line why → NoFormulaRow s (Refused line why) (own_text (Refused line why))
 
--- what is answered where a text is no formula
-abbrev pub answer_to_fault : ReadError → Answer
-answer_to_fault (faults.Refused found) = Refused found.line found.why
-answer_to_fault faults.Memory = NoMemory
+-- The rows of a command that reads a formula: those of the formula that the file spells; or those of a file that gave
+-- none, with what stays as it was.
+pub data FormulaRow (s : Change Source) (Stays : Type 0) (row : Problem → Rows) : Answer → Option (List ℕ) → Type 0 where
+  accepted : {answer : Answer} {told : Option (List ℕ)} (f : Problem) → Accepts s f → row f answer told → FormulaRow s Stays row answer told
+  no_formula : {answer : Answer} {told : Option (List ℕ)} → NoFormulaRow s answer told → Stays → FormulaRow s Stays row answer told

@@ -6,4 +6,4 @@ pub mod Checks
 pub mod Solves
 pub mod Conversions
 pub mod Outcomes
-pub mod Complete
+pub mod Replies

@@ -1,34 +1,18 @@
--- What each answer of the program says of the bytes that came in and went out.
-use Rattle.std.specs.Prelude.{ℕ, ◌≡◌, ◌⊎◌, List}
+-- What each answer of the program says of the bytes that came in and went out, by the command that the words ask for.
+use Rattle.std.specs.Prelude.{ℕ, ◌≡◌, List, Option, None, Some}
 use Rattle.kn_bytes.specs.Outside.{Rose, Got, GotPrefix}
-use Rattle.kn_tool.specs.declared.answer.Which.{Which}
-use Rattle.kn_tool.specs.declared.answer.Which.TheVariants.{Proof, Out}
+use Rattle.kn_tool.specs.declared.answer.Which.TheVariants.{Out}
 use Rattle.kn_tool.specs.declared.answer.Answer.{Answer}
-use Rattle.kn_tool.specs.declared.answer.Answer.TheVariants.{Usage, WriteFault, NoMemory}
-use Rattle.kn_tool.specs.declared.reply.Reply.{Reply}
-use Rattle.kn_tool.specs.declared.reply.Reply.TheVariants as reply
-use Rattle.kn_tool.specs.Words.{Asked, check, solve, convert, HasShape, HasNoShape}
-use Rattle.kn_tool.specs.Answers.{answer_text, usage_text}
-use Rattle.kn_tool.specs.Changes.{Change, Source, Sink, Untouched}
-use Rattle.kn_tool.specs.Checks.{CheckRow}
-use Rattle.kn_tool.specs.Solves.{SolveRow, SolveStops}
-use Rattle.kn_tool.specs.Conversions.{ConvertRow}
+use Rattle.kn_tool.specs.declared.answer.Answer.TheVariants.{Usage, WriteFault}
+use Rattle.kn_tool.specs.Words.{Asked, check, solve, convert, AsksFor}
+use Rattle.kn_tool.specs.Answers.{usage_text}
+use Rattle.kn_tool.specs.Changes.{Change, Source, Sink, IsSound, IsQuiet}
+use Rattle.kn_tool.specs.Files.{Rows}
+use Rattle.kn_tool.specs.Checks.{CheckRow, CheckHeadline, Decides}
+use Rattle.kn_tool.specs.Solves.{SolveRow, SolveHeadline, Concludes}
+use Rattle.kn_tool.specs.Conversions.{ConvertRow, ConvertHeadline, Converts}
 
-abbrev pub IsCheck : List (List ℕ) → Type 0
-IsCheck words = (formula : List ℕ) × (proof : List ℕ) × HasShape words (check formula proof)
-
--- the words ask to solve with this budget of learned clauses
-abbrev pub IsSolveWithin : List (List ℕ) → ℕ → Type 0
-IsSolveWithin words budget =
-    (formula : List ℕ) × (proof : List ℕ) × (forget : ℕ) × HasShape words (solve formula proof budget forget)
-
-abbrev pub IsSolve : List (List ℕ) → Type 0
-IsSolve words = (budget : ℕ) × IsSolveWithin words budget
-
-abbrev pub IsConvert : List (List ℕ) → Type 0
-IsConvert words = (formula : List ℕ) × HasShape words (convert formula)
-
--- the objects of a run but the sink of the answers
+-- The objects of a run but the sink of the answers. Each command speaks of those that it uses.
 pub record Files : Type 0 where
   pub formula : Change Source
   pub proof_in : Change Source
@@ -37,57 +21,40 @@ pub record Files : Type 0 where
 abbrev pub files_change : Change Source → Change Source → Change Sink → Files
 files_change formula proof_in proof_out = record { formula = formula; proof_in = proof_in; proof_out = proof_out }
 
--- what an answer with this text says of the words and the files
-abbrev pub Row : List (List ℕ) → Files → Answer → List ℕ → Type 0
-Row words files Usage text =
-    HasNoShape words × Untouched files.formula × Untouched files.proof_in × Untouched files.proof_out × (text ≡ usage_text)
-Row words files NoMemory text = ⊥
-Row words files (WriteFault which) text = ⊥
-Row words files answer text =
-    (IsCheck words × CheckRow files.formula files.proof_in answer × Untouched files.proof_out × (text ≡ answer_text answer))
-    ⊎ ((budget : ℕ) × IsSolveWithin words budget × SolveRow budget files.formula files.proof_out answer text × Untouched files.proof_in)
-    ⊎ (IsConvert words × ConvertRow files.formula answer text × Untouched files.proof_in × Untouched files.proof_out)
+-- The rows of a command. Words that ask for none have the usage line.
+abbrev pub RowOf : Option Asked → Files → Answer → Option (List ℕ) → Type 0
+RowOf None files answer told = (answer ≡ Usage) × (told ≡ Some usage_text)
+RowOf (Some (check formula proof)) files answer told = CheckRow files.formula files.proof_in answer told
+RowOf (Some (solve formula proof conflicts forget)) files answer told = SolveRow conflicts files.formula files.proof_out answer told
+RowOf (Some (convert formula)) files answer told = ConvertRow files.formula answer told
 
--- what an answer without a text says of them
-abbrev pub Stops : List (List ℕ) → Files → Answer → Type 0
-Stops words files answer =
-    ((answer ≡ NoMemory) × IsCheck words × Untouched files.proof_out)
-    ⊎ (IsSolve words × SolveStops files.formula files.proof_out answer × Untouched files.proof_in)
-    ⊎ ((answer ≡ NoMemory) × IsConvert words × Untouched files.proof_in × Untouched files.proof_out)
+-- What stands on the sink of the answers: the text of the answer; nothing, where it has none; where writing
+-- failed, a prefix of the text of an answer that would have been right.
+pub data Told (row : Rows) (out : Change Sink) : Answer → Type 0 where
+  whole : {answer : Answer} (text : List ℕ) → row answer (Some text) → Got out.old.written out.new.written text → Told row out answer
+  silent : {answer : Answer} → row answer None → out.new.written ≡ out.old.written → Told row out answer
+  cut : (meant : Answer) (text : List ℕ) → row meant (Some text) → Rose out.old.faults out.new.faults
+      → GotPrefix out.old.written out.new.written text → Told row out (WriteFault Out)
 
--- What stands on the sink of the answers. Where writing fails, it is a front of the text of an answer that
--- would have been right; where an answer has no text, nothing was written.
-abbrev pub Tells : (Answer → List ℕ → Type 0) → (Answer → Type 0) → Change Sink → Answer → Type 0
-Tells row stops out NoMemory = stops NoMemory × (out.new.written ≡ out.old.written)
-Tells row stops out (WriteFault Proof) = stops (WriteFault Proof) × (out.new.written ≡ out.old.written)
-Tells row stops out (WriteFault Out) =
-    Rose out.old.faults out.new.faults × ((answer : Answer) × (text : List ℕ) × row answer text × GotPrefix out.old.written out.new.written text)
-Tells row stops out (WriteFault which) = ⊥
-Tells row stops out answer = (text : List ℕ) × row answer text × Got out.old.written out.new.written text
+-- The words ask for a command, or for none, and the answer is told by its rows.
+abbrev pub Tells : List (List ℕ) → Files → Change Sink → Answer → Type 0
+Tells words files out answer = (request : Option Asked) × AsksFor words request × Told (RowOf request files) out answer
 
--- what a reply that is to be told says
-abbrev pub IsReply : (Answer → List ℕ → Type 0) → (Answer → Type 0) → Reply → Type 0
-IsReply row stops (reply.Text answer text) = row answer text.items
-IsReply row stops reply.Usage = row Usage usage_text
-IsReply row stops (reply.Silent answer) = stops answer
+-- The headline: what an answer of a command promises.
+abbrev pub HeadlineOf : Asked → Files → Change Sink → Answer → Type 0
+HeadlineOf (check formula proof) files out answer = CheckHeadline files.formula files.proof_in answer
+HeadlineOf (solve formula proof conflicts forget) files out answer = SolveHeadline conflicts files.formula files.proof_out out answer
+HeadlineOf (convert formula) files out answer = ConvertHeadline files.formula out answer
 
--- the answer with its own text, or none where memory is short
-abbrev pub IsPlain : Answer → Reply → Type 0
-IsPlain answer (reply.Text told text) = (told ≡ answer) × (text.items ≡ answer_text answer) × (answer ≡ NoMemory → ⊥)
-IsPlain answer reply.Usage = ⊥
-IsPlain answer (reply.Silent told) = told ≡ NoMemory
-
--- The text was appended; or writing it failed.
-abbrev pub Sent : Answer → List ℕ → Change Sink → Answer → Type 0
-Sent answer text out result =
-    ((result ≡ answer) × Got out.old.written out.new.written text)
-    ⊎ ((result ≡ WriteFault Out) × Rose out.old.faults out.new.faults × GotPrefix out.old.written out.new.written text)
-
--- what became of a reply
-abbrev pub Told : Reply → Change Sink → Answer → Type 0
-Told (reply.Text answer text) out result = Sent answer text.items out result
-Told reply.Usage out result = Sent Usage usage_text out result
-Told (reply.Silent answer) out result = (result ≡ answer) × (out.new.written ≡ out.old.written)
+-- What is answered where nothing is in the way: no call on an object that the command uses fails, and its sources tell
+-- what they have.
+abbrev pub CompleteOf : Asked → Files → Change Sink → Answer → Type 0
+CompleteOf (check formula proof) files out answer =
+    (text : List ℕ) (more : List ℕ) → IsSound files.formula text → IsSound files.proof_in more → IsQuiet out → Decides text more answer
+CompleteOf (solve formula proof conflicts forget) files out answer =
+    (text : List ℕ) → IsSound files.formula text → IsQuiet files.proof_out → IsQuiet out → Concludes text answer
+CompleteOf (convert formula) files out answer =
+    (text : List ℕ) → IsSound files.formula text → IsQuiet out → Converts text answer
 
 -- the answers to words that ask for no command
 abbrev pub AnswersUsage : Answer → Type 0

@@ -79,6 +79,11 @@ HasShape words (convert formula) = AsksConvert words formula
 abbrev pub HasNoShape : List (List ℕ) → Type 0
 HasNoShape words = (asked : Asked) → HasShape words asked → ⊥
 
+-- what words ask for: a command, or nothing
+abbrev pub AsksFor : List (List ℕ) → Option Asked → Type 0
+AsksFor words None = HasNoShape words
+AsksFor words (Some asked) = HasShape words asked
+
 abbrev pub texts : List (Vec ℕ Global) → List (List ℕ)
 texts words = map (λ word. word.items) words
 
@@ -101,6 +106,10 @@ named_by (convert formula) = record { formula = Some formula; proof_in = None; p
 
 abbrev pub no_names : Named
 no_names = record { formula = None; proof_in = None; proof_out = None }
+
+abbrev pub names_of : Option Asked → Named
+names_of None = no_names
+names_of (Some asked) = named_by asked
 
 abbrev pub named_in : Names → Named
 named_in names = record {

@@ -6,7 +6,7 @@ use std::alloc::{AllocError, Global};
 
 /// The line that says how the program is called.
 pub const USAGE: &[u8] =
-    b"c usage: knf check F P | knf solve F P [--conflicts N] [--forget N] | knf extract F | knf convert F | knf work N\n";
+    b"c usage: knf check F P | knf solve F P [--conflicts N] [--forget N] | knf extract F | knf convert F | knf work N | knf minimise F P [--conflicts N] | knf assume F P [--conflicts N] | knf trim F P\n";
 
 /// One of the program's files, or standard output.
 #[derive(Clone, Copy, Debug, PartialEq, Eq)]

@@ -1,5 +1,5 @@
-ghost use Rattle.std.specs.Prelude.{◌≡◌, ◌↔◌, ℕ, List, IfSome, IfNone, IsTrue, codes};
-ghost use Rattle.kn_tool.specs.Words.{AsksCheck, AsksSolve, AsksConvert, HasShape, HasNoShape, SpellsOption, SpellsBoth, SpellsOptions, count_of, texts, asked_by};
+ghost use Rattle.std.specs.Prelude.{◌≡◌, ◌↔◌, ℕ, List, IfSome, IfNone, IsTrue, codes, option_map};
+ghost use Rattle.kn_tool.specs.Words.{AsksCheck, AsksSolve, AsksConvert, HasShape, AsksFor, SpellsOption, SpellsBoth, SpellsOptions, count_of, texts, asked_by};
 
 use kn_text::number;
 
@@ -39,8 +39,7 @@ const DEFAULT_LIMITS: Limits = Limits {
 
 /// The command that the words ask for; `None` exactly where they ask for none.
 pub fn parse<'a>(words: &'a [Vec<u8>]) -> Option<Command<'a>>
-    ensures some { IfSome result (λ c. HasShape (texts words.now) (asked_by c)) }
-    ensures none { IfNone result (HasNoShape (texts words.now)) }
+    ensures { AsksFor (texts words.now) (option_map asked_by result) }
 {
     if let Some(command) = check_command(words) {
         return Some(command);

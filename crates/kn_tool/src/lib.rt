@@ -1,7 +1,9 @@
 //! The program as a function: `run` reads the words of a command line, does what they ask for over
-//! sources and sinks of bytes, and answers. What each answer says of the bytes stands in `specs/Outcomes.antt`,
-//! which puts together what each command says (`Checks`, `Solves`, `Conversions`); its text and status in `Answers`, the
-//! command lines in `Words`, what is answered where nothing is in the way in `Complete`.
+//! sources and sinks of bytes, and answers. Its contract is put together in `specs/Outcomes.antt` from what each
+//! command says: `Checks`, `Solves` and `Conversions` have a table of rows each, which answer comes when and with which
+//! text, what it promises, and what is answered where nothing is in the way. The command lines stand in `Words`, the
+//! texts and statuses in `Answers`, what a call does to sources and sinks in `Changes`, what is read of a formula's file in
+//! `Files`. `Replies` has what the private functions hand to one another, which no reader must believe.
 #![tactic(auto)]
 
 mod answer;
@@ -9,6 +11,7 @@ mod checking;
 mod command;
 mod converting;
 mod files;
+mod laws;
 mod naming;
 mod reply;
 mod solving;
@@ -17,6 +20,7 @@ mod top;
 pub use answer::{Answer, Which};
 pub use command::{Command, Names, parse};
 pub use files::MAX_BYTES;
+pub use laws::words_ask_for_one_command;
 pub use naming::names;
 pub use top::run;
 

@@ -1,4 +1,4 @@
-ghost use Rattle.kn_tool.specs.Outcomes.{IsPlain};
+ghost use Rattle.kn_tool.specs.Replies.{IsPlain, IsShortMemory};
 
 use crate::Answer;
 use crate::answer::text_of;
@@ -15,17 +15,21 @@ pub enum Reply {
     Silent { answer: Answer },
 }
 
-/// The reply of an answer that has a text of its own, or none.
+/// The reply of an answer that has a text of its own.
 pub fn reply_of(alloc: Global, answer: Answer) -> Reply
     ensures { IsPlain answer result }
 {
-    if let Answer::NoMemory = answer {
-        return Reply::Silent { answer };
-    }
     match text_of(alloc, &answer) {
         Ok(text) => Reply::Text { answer, text },
-        Err(_) => Reply::Silent {
-            answer: Answer::NoMemory,
-        },
+        Err(_) => short_memory(),
+    }
+}
+
+/// The reply where memory is short.
+pub fn short_memory() -> Reply
+    ensures { IsShortMemory result }
+{
+    Reply::Silent {
+        answer: Answer::NoMemory,
     }
 }

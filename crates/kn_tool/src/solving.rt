@@ -1,13 +1,13 @@
-ghost use Rattle.std.specs.Prelude.{◌≡◌, ◌≤◌, ◌^◌, IfOk, IfErr};
+ghost use Rattle.std.specs.Prelude.{◌≡◌, ◌≤◌, ◌^◌, None, IfOk, IfErr};
 ghost use Rattle.kn_logic.specs.Formulas.{IsFormula};
 ghost use Rattle.kn_tool.specs.Changes.{source_change, sink_change};
-ghost use Rattle.kn_tool.specs.Outcomes.{IsReply};
-ghost use Rattle.kn_tool.specs.Solves.{SolveRow, SolveStops, SolvedStops, Finds, IsReplyOf, IsSolvedReply, satisfiable_text};
+ghost use Rattle.kn_tool.specs.Solves.{SolveRow, SolvedRow, satisfiable_text};
+ghost use Rattle.kn_tool.specs.Replies.{IsReply, Finds, IsReplyOf};
 ghost use Rattle.kn_search.specs.declared.outcome.Outcome.TheVariants.{Model};
 
 use crate::answer::text_of;
 use crate::files::understand;
-use crate::reply::{Reply, reply_of};
+use crate::reply::{Reply, reply_of, short_memory};
 use crate::{Answer, Which};
 use kn_bytes::{Sink, Source};
 use kn_format::write_model;
@@ -24,22 +24,21 @@ pub fn solve_file<F: Source, P: Sink>(
     proof: &mut P,
     options: Options,
 ) -> Reply
-    ensures reply { IsReply
-        (SolveRow options.conflicts (source_change F.left F.given F.faults formula.old formula.new) (sink_change P.written P.faults proof.old proof.new))
-        (SolveStops (source_change F.left F.given F.faults formula.old formula.new) (sink_change P.written P.faults proof.old proof.new)) result }
+    ensures reply { IsReply (SolveRow options.conflicts
+        (source_change F.Source formula.old formula.new) (sink_change P.Sink proof.old proof.new)) result }
     ensures later_formula { F.faults formula.old ≤ F.faults formula.new }
     ensures later_proof { P.faults proof.old ≤ P.faults proof.new }
 {
     match understand(alloc, formula) {
         Ok(f) => solve_formula(alloc, &f, proof, options),
-        Err(answer) => reply_of(alloc, answer),
+        Err(reply) => reply,
     }
 }
 
 fn solve_formula<P: Sink>(alloc: Global, f: &Formula, proof: &mut P, options: Options) -> Reply
     requires vars { f.now.vars ≤ 2 ^ 32 }
     requires formula { IsFormula f.now }
-    ensures reply { IsSolvedReply options.conflicts f.now (sink_change P.written P.faults proof.old proof.new) result }
+    ensures reply { IsReply (SolvedRow options.conflicts (sink_change P.Sink proof.old proof.new) f.now) result }
     ensures later { P.faults proof.old ≤ P.faults proof.new }
 {
     match search_formula(alloc, f, proof, options) {
@@ -56,8 +55,8 @@ fn search_formula<P: Sink>(
     options: Options,
 ) -> Result<Outcome, Answer>
     requires { f.now.vars ≤ 2 ^ 32 }
-    ensures found { IfOk result (Finds options.conflicts f.now (sink_change P.written P.faults proof.old proof.new)) }
-    ensures err { IfErr result (SolvedStops f.now (sink_change P.written P.faults proof.old proof.new)) }
+    ensures found { IfOk result (Finds options.conflicts f.now (sink_change P.Sink proof.old proof.new)) }
+    ensures err { IfErr result (λ answer. SolvedRow options.conflicts (sink_change P.Sink proof.old proof.new) f.now answer None) }
     ensures later { P.faults proof.old ≤ P.faults proof.new }
 {
     let mut log = match Log::new(alloc, f, proof) {
@@ -94,9 +93,7 @@ fn reply_of_model(alloc: Global, model: &Assignment) -> Reply
             answer: Answer::Model,
             text,
         },
-        Err(_) => Reply::Silent {
-            answer: Answer::NoMemory,
-        },
+        Err(_) => short_memory(),
     }
 }
 

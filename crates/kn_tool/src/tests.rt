@@ -233,7 +233,7 @@ fn other_words_have_the_usage_line(rt: HostRuntime) -> Result<(), Fail> {
         assert_eq!(rt; seen.answer.status(), 2);
         assert_eq!(rt;
             seen.text.as_slice(),
-            b"c usage: knf check F P | knf solve F P [--conflicts N] [--forget N] | knf extract F | knf convert F | knf work N\n".as_slice()
+            b"c usage: knf check F P | knf solve F P [--conflicts N] [--forget N] | knf extract F | knf convert F | knf work N | knf minimise F P [--conflicts N] | knf assume F P [--conflicts N] | knf trim F P\n".as_slice()
         );
     }
     Ok(())

@@ -2,7 +2,7 @@
 use Rattle.std.proofs.Common.{◌≡◌, ℕ, ◌+◌, ◌≤◌, ◌++◌, length, take, arith, length-append}
 use Rattle.std.proofs.lemmas.List.{length-take, length-take-le}
 use Rattle.std.proofs.lemmas.Result.{err_from_is_err_and}
-use Rattle.kn_bytes.proofs.Joined.{Gave-append, RoseBy-take}
+use Rattle.kn_bytes.proofs.Public.{Gave-append, RoseBy-take}
 use Rattle.kn_bytes.proofs.read.read_by.Goals as goal
 
 pub returns-then-size-room-clause-took : goal.returns-then-size-room-clause-took

@@ -1,6 +1,6 @@
 -- The sink got what stood before the place, and then a piece more.
 use Rattle.std.proofs.Common.{rules}
-use Rattle.kn_bytes.proofs.Joined.{Got-take}
+use Rattle.kn_bytes.proofs.Public.{Got-take}
 use Rattle.kn_bytes.proofs.write.write_all.Goals as goal
 
 pub loop-at-preserved : goal.loop-at-preserved

@@ -1,39 +1,32 @@
-use Rattle.kn_tool.specs.Changes.{sink_change}
-use Rattle.kn_tool.proofs.Rows.{reply_tells, told_usage}
-use Rattle.kn_tool.proofs.Complete.{decides, concludes, converts}
-use Rattle.kn_tool.proofs.Headline.{model, refuted, unknown, done}
+use Rattle.kn_tool.specs.Words.{Named}
+use Rattle.kn_tool.proofs.Shapes.{no_command, same_name}
+use Rattle.kn_tool.proofs.Replies.{told, told_usage}
+use Rattle.kn_tool.proofs.Headline.{headline}
+use Rattle.kn_tool.proofs.Complete.{complete}
 use Rattle.kn_tool.proofs.top.run.Goals as goal
 
 pub returns-clause-tells : goal.returns-clause-tells
-returns-clause-tells g c = reply_tells _ _ _ c.decide-reply.result _ c.decide-reply.ensures.reply c.tell.ensures.told
+returns-clause-tells g c = (_, c.parse.ensures, told _ _ c.carry_out-reply.result _ c.carry_out-reply.ensures.reply c.tell.ensures.told)
+
+pub returns-clause-headline : goal.returns-clause-headline
+returns-clause-headline g c =
+    headline _ _ _ _ _ c.parse.ensures (told _ _ c.carry_out-reply.result _ c.carry_out-reply.ensures.reply c.tell.ensures.told)
+
+pub returns-clause-complete : goal.returns-clause-complete
+returns-clause-complete g c =
+    complete _ _ _ _ _ c.parse.ensures (told _ _ c.carry_out-reply.result _ c.carry_out-reply.ensures.reply c.tell.ensures.told)
 
 pub returns-clause-usage : goal.returns-clause-usage
-returns-clause-usage g c = λ none. told_usage c.decide-reply.result (sink_change g.O.Sink.written g.O.Sink.faults c.args.out.now c.tell.new.out) _ (c.decide-reply.ensures.usage none) c.tell.ensures.told
+returns-clause-usage g c = λ none. told_usage _ _ _ (c.carry_out-reply.ensures.usage (no_command _ _ c.parse.ensures none)) c.tell.ensures.told
 
-pub returns-clause-decides : goal.returns-clause-decides
-returns-clause-decides g c = λ text more asked sound sound_too quiet.
-    decides _ _ _ _ (reply_tells _ _ (sink_change g.O.Sink.written g.O.Sink.faults c.args.out.now c.tell.new.out) c.decide-reply.result _ c.decide-reply.ensures.reply c.tell.ensures.told) text more asked sound sound_too quiet
+pub returns-clause-unnamed_formula : goal.returns-clause-unnamed_formula
+returns-clause-unnamed_formula g c =
+    λ request asks none. c.carry_out-reply.ensures.unnamed_formula (same_name (λ (n : Named). n.formula) _ _ request c.parse.ensures asks none)
 
-pub returns-clause-concludes : goal.returns-clause-concludes
-returns-clause-concludes g c = λ text asked sound proof_quiet quiet.
-    concludes _ _ _ _ (reply_tells _ _ (sink_change g.O.Sink.written g.O.Sink.faults c.args.out.now c.tell.new.out) c.decide-reply.result _ c.decide-reply.ensures.reply c.tell.ensures.told) text asked sound proof_quiet quiet
+pub returns-clause-unnamed_proof : goal.returns-clause-unnamed_proof
+returns-clause-unnamed_proof g c =
+    λ request asks none. c.carry_out-reply.ensures.unnamed_proof (same_name (λ (n : Named). n.proof_in) _ _ request c.parse.ensures asks none)
 
-pub returns-clause-model : goal.returns-clause-model
-returns-clause-model g c =
-    model _ _ (sink_change g.O.Sink.written g.O.Sink.faults c.args.out.now c.tell.new.out) _ (reply_tells _ _ _ c.decide-reply.result _ c.decide-reply.ensures.reply c.tell.ensures.told)
-
-pub returns-clause-refuted : goal.returns-clause-refuted
-returns-clause-refuted g c =
-    refuted _ _ (sink_change g.O.Sink.written g.O.Sink.faults c.args.out.now c.tell.new.out) _ (reply_tells _ _ _ c.decide-reply.result _ c.decide-reply.ensures.reply c.tell.ensures.told)
-
-pub returns-clause-unknown : goal.returns-clause-unknown
-returns-clause-unknown g c =
-    unknown _ _ (sink_change g.O.Sink.written g.O.Sink.faults c.args.out.now c.tell.new.out) _ (reply_tells _ _ _ c.decide-reply.result _ c.decide-reply.ensures.reply c.tell.ensures.told)
-
-pub returns-clause-done : goal.returns-clause-done
-returns-clause-done g c =
-    done _ _ (sink_change g.O.Sink.written g.O.Sink.faults c.args.out.now c.tell.new.out) _ (reply_tells _ _ _ c.decide-reply.result _ c.decide-reply.ensures.reply c.tell.ensures.told)
-
-pub returns-clause-converts : goal.returns-clause-converts
-returns-clause-converts g c = λ text asked sound quiet.
-    converts _ _ _ _ (reply_tells _ _ (sink_change g.O.Sink.written g.O.Sink.faults c.args.out.now c.tell.new.out) c.decide-reply.result _ c.decide-reply.ensures.reply c.tell.ensures.told) text asked sound quiet
+pub returns-clause-unnamed_sink : goal.returns-clause-unnamed_sink
+returns-clause-unnamed_sink g c =
+    λ request asks none. c.carry_out-reply.ensures.unnamed_sink (same_name (λ (n : Named). n.proof_out) _ _ request c.parse.ensures asks none)

@@ -1,7 +1,7 @@
-use Rattle.std.proofs.Common.{[], ◌∷◌, ◌++◌, sym, ap, subst, ◌∙◌}
+use Rattle.std.proofs.Common.{[], ◌∷◌, ◌++◌, cond, true, sym, ap, subst, ◌∙◌}
 use Rattle.kn_logic.specs.Literals.{IsKnown}
 use Rattle.kn_format.specs.Faults.{Reading}
-use Rattle.kn_format.proofs.Begun.{keeps_added, not_seen}
+use Rattle.kn_format.proofs.Begun.{keeps_added, not_seen, joined}
 use Rattle.kn_format.proofs.reader.Reader.add_different.Goals as goal
 
 -- the literal joins the list and its variable the set
@@ -15,4 +15,4 @@ invariant_of-self-2 c =
     c.var.ensures.value
     (not_seen _ _ c.in_ok-insert.ensures.added c.if-not-branch.false)
     (c.in_ok-push.ensures.items ∙ ap (λ xs. xs ++ c.args.lit ∷ []) c.in_ok-reserve.ensures.items)
-    c.in_ok-insert.ensures.updates.0
+    (joined _ _ _ c.in_ok-insert.ensures.updates.0)

@@ -10,7 +10,7 @@ invariant_of-self-else-not-take_out c =
     let stepped : deleted c.self.inside.given.items c.args.ids.now ≡ Ok c.take_out.new.given = search rules in
     record {
       empty = c.self.invariant.empty;
-      trail = c.self.invariant.trail;
+      room = c.self.invariant.room;
       count = c.self.invariant.count;
       within = subst (AllLive (IsWithin c.self.inside.vars)) (sym (written _ _ _ len)) (deleted-still (IsWithin c.self.inside.vars) c.args.ids.now _ _ c.self.invariant.within stepped);
     }

@@ -7,10 +7,10 @@ use Rattle.kn_rules.proofs.checker.Checker.follow.Goals as goal
 pub follows-requires-clause-known : goal.follows-requires-clause-known
 follows-requires-clause-known c =
     let known : are_known c.self.inside.vars c.args.lits.now ≡ true = search rules in
-    are_known-more _ _ c.args.lits.now c.self.invariant.trail (known-test _ _ known)
+    are_known-more _ _ c.args.lits.now c.self.invariant.room (known-test _ _ known)
 
 pub follows-requires-clause-within : goal.follows-requires-clause-within
-follows-requires-clause-within c = rw c.deref-2.ensures.value (live-more _ _ c.self.inside.given.items c.self.invariant.trail c.self.invariant.within)
+follows-requires-clause-within c = rw c.deref.ensures.value (live-more _ _ c.self.inside.given.items c.self.invariant.room c.self.invariant.within)
 
 pub invariant_of-self-2 : goal.invariant_of-self-2
 invariant_of-self-2 c =

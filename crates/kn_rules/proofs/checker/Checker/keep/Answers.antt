@@ -10,7 +10,7 @@ invariant_of-self-2 c =
     let ok : IsOk (follow s c.args.origin c.args.c.lits c.args.hints.now) = subst (λ (t : ProofState). IsOk (follow t c.args.origin c.args.c.lits c.args.hints.now)) (sym c.self.view_is) c.requires.steps in
     record {
       empty = c.self.invariant.empty;
-      trail = c.self.invariant.trail;
+      room = c.self.invariant.room;
       count = c.self.invariant.count;
       within = rw c.in_ok-push.ensures.items (kept-within s c.args.origin c.args.c c.args.hints.now c.self.invariant.within c.requires.formed ok);
     }

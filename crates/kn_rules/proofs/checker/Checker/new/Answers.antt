@@ -5,7 +5,7 @@ use Rattle.kn_rules.proofs.checker.Checker.new.Goals as goal
 pub invariant_of-result : goal.invariant_of-result
 invariant_of-result c = record {
   empty = search rules;
-  trail = search rules;
+  room = search rules;
   count = search rules;
   within = rw (c.in_ok-file_given.ensures, c.vars-vars.ensures, c.constraints.ensures.value) (file-within _ _ c.constraints.ensures.formula);
 }

@@ -1,0 +1,5 @@
+mod Elements
+mod Lives
+mod Asked
+mod Gathers
+mod Grown

@@ -1,0 +1,29 @@
+use kn_logic::NoMemory;
+
+/// Why a variable has no guess: the first test that fails, in this order, or want of memory.
+#[derive(Clone, Copy, Debug, PartialEq, Eq)]
+pub enum NoGuess {
+    /// It does not stand in both polarities, stands in no binary clause, or stands in a klause.
+    NotSeed,
+    /// Its least set has more than 256 variables.
+    TooMany,
+    /// Fewer than 3 variables stand at the border.
+    SmallBorder,
+    /// More than 128 variables stand at the border.
+    TooWideBorder,
+    /// A variable stands at the border in both polarities; `var` is the least such.
+    TwoSided { var: u64 },
+    /// Memory is wanting.
+    Memory,
+}
+
+impl From<NoMemory> for NoGuess {
+    ghost use Rattle.std.specs.Prelude.{◌≡◌};
+    ghost use Rattle.kn_guess.specs.declared.error.NoGuess.TheVariants.{Memory};
+
+    ghost from_gives = { λ _ e. e ≡ Memory };
+
+    fn from(_error: NoMemory) -> NoGuess {
+        NoGuess::Memory
+    }
+}

@@ -1,0 +1,18 @@
+//! Groups of clauses that may hide a count are guessed: from a variable, by its neighbours (`aux_guess`), or
+//! from a binary clause, by the binary clauses that join it (`pair_guess`). What is guessed is defined in
+//! `specs/Guesses.antt`, and why a variable has no guess in `specs/Refusals.antt`.
+#![tactic(auto)]
+
+mod asks;
+mod border;
+mod error;
+mod growing;
+mod guess;
+mod pick;
+mod seeds;
+mod taking;
+mod var_set;
+
+pub use error::NoGuess;
+pub use guess::Guess;
+pub use seeds::aux_guess;

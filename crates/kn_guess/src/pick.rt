@@ -1,0 +1,59 @@
+// Which variables of constraints are gathered.
+ghost use Rattle.std.specs.Prelude.{ℕ, ◌≡◌, Option};
+ghost use Rattle.kn_logic.specs.Literals.{Literal};
+ghost use Rattle.kn_guess.specs.Growing.{later_key, outside_key};
+
+use crate::var_set::VarSet;
+use kn_logic::Lit;
+
+pub(crate) trait Pick {
+    ghost key: { Self → Literal → Option ℕ };
+    fn pick(&self, lit: Lit) -> Option<u64>
+        ensures { result ≡ key self.now lit };
+}
+
+// Variables later than the seed that stand in no klause.
+#[derive(Drop)]
+pub(crate) struct Later<'a> {
+    pub(crate) seed: u64,
+    pub(crate) free: &'a [bool],
+}
+
+impl Pick for Later<'_> {
+    ghost use Rattle.kn_guess.specs.Growing.{later_key};
+
+    ghost key = { λ p. later_key p.seed p.free.now };
+
+    fn pick(&self, lit: Lit) -> Option<u64>
+        ensures { result ≡ later_key self.now.seed self.now.free.now lit }
+    {
+        let var = lit.var();
+        let free = self.free.get(var as usize - 1).copied().unwrap_or(false);
+        if self.seed < var && free {
+            return Some(var);
+        }
+        None
+    }
+}
+
+// Variables outside a set, in one polarity.
+#[derive(Drop)]
+pub(crate) struct Outside<'a> {
+    pub(crate) set: &'a VarSet,
+    pub(crate) positive: bool,
+}
+
+impl Pick for Outside<'_> {
+    ghost use Rattle.kn_guess.specs.Growing.{outside_key};
+
+    ghost key = { λ p. outside_key p.set.now p.positive };
+
+    fn pick(&self, lit: Lit) -> Option<u64>
+        ensures { result ≡ outside_key self.now.set.now self.now.positive lit }
+    {
+        if lit.is_positive() == self.positive && !self.set.contains(lit.var()) {
+            return Some(lit.var());
+        }
+        None
+    }
+}

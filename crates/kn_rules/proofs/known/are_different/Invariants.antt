@@ -1,7 +1,0 @@
-use Rattle.std.proofs.Common.{◌≡◌, drop}
-use Rattle.kn_rules.specs.Steps.{are_different}
-use Rattle.kn_rules.proofs.Different.{goes_on_different}
-use Rattle.kn_rules.proofs.known.are_different.Given as goal
-
-abbrev pub invariant-loop-lit : goal.invariant-loop-lit
-invariant-loop-lit l = goes_on_different l.seen.keys (drop l.lit-index l.lits) ≡ are_different l.lits

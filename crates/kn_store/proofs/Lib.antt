@@ -1,0 +1,5 @@
+mod Places
+mod Emptied
+mod Changed
+mod Keeps
+pub mod Public

@@ -1,0 +1,12 @@
+use Rattle.std.proofs.Common.{◌≡◌, ℕ, ◌<◌, length}
+use Rattle.std.specs.Prelude.{slice_index}
+use Rattle.std.specs.List.{list_any}
+use Rattle.kn_tables.specs.Tables.{is_true_at}
+use Rattle.kn_tables.specs.Words.{HasValues}
+use Rattle.kn_tables.proofs.table.Table.of_clause.Given as goal
+
+abbrev pub invariant-loop-place : goal.invariant-loop-place
+invariant-loop-place l = record {
+  whole : length l.words ≡ 64;
+  values : (k : ℕ) → k < l.place → HasValues (λ i. list_any (is_true_at i) l.lits) k (slice_index l.words k);
+}

@@ -1,0 +1,7 @@
+ghost use Rattle.std.specs.Prelude.{◌≡◌, ℕ, List};
+ghost use Rattle.kn_tool.specs.Words.{Asked, HasShape};
+
+/// A law over the definitions, and no code: words ask for one command at most.
+pub fn words_ask_for_one_command()
+    ensures { (words : List (List ℕ)) (one : Asked) (other : Asked) → HasShape words one → HasShape words other → one ≡ other }
+{}
