@@ -71,7 +71,7 @@ impl Watched for ClauseWatch {
     }
 
     fn guarded(&self) -> bool {
-        self.clause.guard().is_some()
+        false
     }
 
     fn lits(&self) -> &[Lit] {

@@ -50,7 +50,7 @@ impl Watched for KlauseWatch {
     }
 
     fn guarded(&self) -> bool {
-        self.klause.guard().is_some()
+        false
     }
 
     fn lits(&self) -> &[Lit] {

@@ -13,6 +13,7 @@ pub(crate) fn survey(c: &Constraint, trail: &Trail) -> Visit
     ensures means { IsSurveyed (literals trail.now.made) c.now result }
     ensures kept { IsTrail trail.now }
 {
+    // its readers hand out what a trail keeps
     let _ = trail.len();
     if is_satisfied(c, trail) {
         return Visit::Satisfied;
