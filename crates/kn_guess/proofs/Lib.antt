@@ -1,5 +1,9 @@
 mod Elements
+mod Rising
 mod Lives
 mod Asked
 mod Gathers
 mod Grown
+mod Bordered
+mod Taken
+mod Seeded

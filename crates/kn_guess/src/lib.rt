@@ -16,3 +16,6 @@ mod var_set;
 pub use error::NoGuess;
 pub use guess::Guess;
 pub use seeds::aux_guess;
+
+#[cfg(test)]
+mod tests;

@@ -45,8 +45,10 @@ fn seed_guess(alloc: Global, store: &Store, free: &[bool], seed: u64) -> Result<
         return Err(NoGuess::TooMany);
     };
     let aux = ascending(Vec::from_slice(alloc, set.vars())?);
-    let border = border(alloc, store, &set, &aux)?;
-    Ok(taken(alloc, store, aux, border)?)
+    match border(alloc, store, &set, &aux) {
+        Ok(border) => Ok(taken(alloc, store, aux, border)?),
+        Err(why) => Err(why),
+    }
 }
 
 // The guess of these auxiliary variables and this border of theirs.

@@ -1,0 +1,68 @@
+use Rattle.std.proofs.Common.{◌≡◌, ◌≤◌, ◌∙◌, ℕ, List, length, true, false, filter, not, ap, sym, subst, arith}
+use Rattle.std.specs.Prelude.{IfSome}
+use Rattle.std.specs.List.{AllByRecursion}
+use Rattle.kn_logic.specs.Groups.{is_among}
+use Rattle.kn_store.specs.Stores.{constraints_of}
+use Rattle.kn_guess.specs.Guesses.{in_klause, touches, IsLeastFrom, IsBorder}
+use Rattle.kn_guess.specs.Refusals.{AreApart, IsBorderRefused}
+use Rattle.kn_guess.proofs.Seeded.{all-same, least-same, refused-border, guess-is}
+use Rattle.kn_guess.proofs.seeds.seed_guess.Goals as goal
+
+pub border-requires-clause-known : goal.border-requires-clause-known
+border-requires-clause-known c =
+    let s = c.args.store.now in
+    let P : ℕ → Type 0 = λ x. (1 ≤ x) × (x ≤ s.vars) in
+    let known = subst (λ o. IfSome o (AllByRecursion P)) c.in-Some.is c.in_ok-set.ensures.known in
+    subst (AllByRecursion P) (sym c.deref.ensures.value)
+      (all-same P c.in-Some.set c.ascending-aux.result.items (λ x. c.ascending-aux.ensures.same x ∙ ap (λ z. is_among z x) (c.in_ok-from_slice.ensures.items ∙ c.vars.ensures)) known)
+
+pub border-requires-clause-alone : goal.border-requires-clause-alone
+border-requires-clause-alone c =
+    let s = c.args.store.now in
+    let P : ℕ → Type 0 = λ x. in_klause (constraints_of s.live) x ≡ false in
+    let alone = subst (λ o. IfSome o (AllByRecursion P)) c.in-Some.is c.in_ok-set.ensures.alone in
+    subst (AllByRecursion P) (sym c.deref.ensures.value)
+      (all-same P c.in-Some.set c.ascending-aux.result.items (λ x. c.ascending-aux.ensures.same x ∙ ap (λ z. is_among z x) (c.in_ok-from_slice.ensures.items ∙ c.vars.ensures)) alone)
+
+pub taken-requires-clause-known : goal.taken-requires-clause-known
+taken-requires-clause-known c =
+    let s = c.args.store.now in
+    let P : ℕ → Type 0 = λ x. (1 ≤ x) × (x ≤ s.vars) in
+    let known = subst (λ o. IfSome o (AllByRecursion P)) c.in-Some.is c.in_ok-set.ensures.known in
+    all-same P c.in-Some.set c.ascending-aux.result.items (λ x. c.ascending-aux.ensures.same x ∙ ap (λ z. is_among z x) (c.in_ok-from_slice.ensures.items ∙ c.vars.ensures)) known
+
+pub taken-requires-clause-alone : goal.taken-requires-clause-alone
+taken-requires-clause-alone c =
+    let s = c.args.store.now in
+    let P : ℕ → Type 0 = λ x. in_klause (constraints_of s.live) x ≡ false in
+    let alone = subst (λ o. IfSome o (AllByRecursion P)) c.in-Some.is c.in_ok-set.ensures.alone in
+    all-same P c.in-Some.set c.ascending-aux.result.items (λ x. c.ascending-aux.ensures.same x ∙ ap (λ z. is_among z x) (c.in_ok-from_slice.ensures.items ∙ c.vars.ensures)) alone
+
+pub returns-in-Ok-clause-guess : goal.returns-in-Ok-clause-guess
+returns-in-Ok-clause-guess c =
+    let s = c.args.store.now in
+    let cs = constraints_of s.live in
+    let aux = c.ascending-aux.result.items in
+    let numbers = c.in_ok-from_slice.ensures.items ∙ c.vars.ensures in
+    let least = subst (λ o. IfSome o (IsLeastFrom cs c.args.seed)) c.in-Some.is c.in_ok-set.ensures.least in
+    let few = subst (λ o. IfSome o (λ set. AreApart set × (length set ≤ 256))) c.in-Some.is c.in_ok-set.ensures.few in
+    let short = c.ascending-aux.ensures.short in
+    let n = ap length numbers in
+    let edge = subst (λ z. IsBorder (filter (touches z) cs) z c.in-Ok.border.items) c.deref.ensures.value c.in-Ok.ensures.ok.0 in
+    guess-is s c.args.seed aux c.in-Ok.border.items c.in_ok-taken-in-Ok.field-0.group c.in_ok-taken-in-Ok.field-0.ids (sym c.is_seed.ensures ∙ c.if-not-is_seed.false) c.ascending-aux.ensures.ascending
+      (least-same cs c.args.seed c.in-Some.set aux (λ x. c.ascending-aux.ensures.same x ∙ ap (λ z. is_among z x) numbers) least) (let f = few.1 in omega (arith, short, n, f))
+      edge c.in-Ok.ensures.ok.1 c.in-Ok.ensures.ok.2 c.in_ok-taken-in-Ok.ensures.aux c.in_ok-taken-in-Ok.ensures.border c.in_ok-taken-in-Ok.ensures.taken c.in_ok-taken-in-Ok.ensures.ids
+
+pub returns-clause-refused : goal.returns-clause-refused
+returns-clause-refused c =
+    let s = c.args.store.now in
+    let cs = constraints_of s.live in
+    let aux = c.ascending-aux.result.items in
+    let numbers = c.in_ok-from_slice.ensures.items ∙ c.vars.ensures in
+    let least = subst (λ o. IfSome o (IsLeastFrom cs c.args.seed)) c.in-Some.is c.in_ok-set.ensures.least in
+    let few = subst (λ o. IfSome o (λ set. AreApart set × (length set ≤ 256))) c.in-Some.is c.in_ok-set.ensures.few in
+    let short = c.ascending-aux.ensures.short in
+    let n = ap length numbers in
+    refused-border cs c.args.seed aux c.in-Err.why (sym c.is_seed.ensures ∙ c.if-not-is_seed.false)
+      (least-same cs c.args.seed c.in-Some.set aux (λ x. c.ascending-aux.ensures.same x ∙ ap (λ z. is_among z x) numbers) least) (let f = few.1 in omega (arith, short, n, f))
+      (subst (λ z. IsBorderRefused (filter (touches z) cs) z c.in-Err.why) c.deref.ensures.value c.in-Err.ensures.err)
