@@ -34,14 +34,18 @@ def writing(tally, folder):
         tally.test(" ".join(words), said == (4, ""), said)
     with open("/dev/full", "wb") as full:
         tally.test("a full standard output", run(["convert", "f"], folder.path, stdout=full)[0] == 4)
-    tally.test("a closed standard output", closed(["convert", "f"], folder) == 4)
+    tally.test("a closed standard output", closed(["convert", "f"], folder, ">&-") == 4)
+    tally.test("closed standard input and output", closed(["solve", "f", "p"], folder, "<&- >&-") == 4)
+    with open(folder.at("p"), encoding="ascii") as proof:
+        tally.test("no answer in the proof", proof.read().startswith("p kpf 1 2\nr 0 "))
+    os.remove(folder.at("p"))
     tally.test("/dev/null takes a proof", run(["solve", "f", "/dev/null"], folder.path) == (20, "s UNSATISFIABLE\n"))
     tally.test("nothing is left behind", sorted(os.listdir(folder.path)) == ["f"], os.listdir(folder.path))
 
 
-def closed(words, folder):
-    """The status of a run whose standard output is closed."""
-    return subprocess.run(["sh", "-c", 'exec "$@" >&-', "sh", PROGRAM, *words], cwd=folder.path, check=False).returncode
+def closed(words, folder, ends):
+    """The status of a run with these of its descriptors closed."""
+    return subprocess.run(["sh", "-c", f'exec "$@" {ends}', "sh", PROGRAM, *words], cwd=folder.path, check=False).returncode
 
 
 def piped(tally, folder):

@@ -214,18 +214,6 @@ impl Diagrams {
         width::widest(*self.order.allocator(), self, f)
     }
 
-    /// Whether the value of a variable decides the function's, at some values of the other variables.
-    pub fn depends(&self, f: Node, var: u64) -> Result<bool, NoMemory>
-        requires there { IsNode self.now f }
-        requires within { depth_in self.now.order var < length self.now.order }
-        ensures yes { IfOk result (λ b. b ≡ true → DependsOn (function_of self.now f) var) }
-        ensures not { IfOk result (λ b. b ≡ false → Ignores (function_of self.now f) var) }
-    {
-        let widths = width::widths(*self.order.allocator(), self, f)?;
-        let depth = depth_in(&self.order, var);
-        Ok(widths[depth] > 0)
-    }
-
     /// The variable that stands furthest down the order, but above this depth, of those whose value decides
     /// the function's at some values of the others. None where there is none above the depth.
     pub fn deepest_above(&self, f: Node, depth: usize) -> Result<Option<u64>, NoMemory>

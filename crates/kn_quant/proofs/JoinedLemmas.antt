@@ -1,11 +1,10 @@
 -- Joining pieces, splitting them and taking clauses, step by step.
-use Rattle.std.proofs.Common.{ℕ, ◌≡◌, ◌+◌, ◌-◌, ◌<◌, ◌≤◌, inl, inr, List, [], ◌∷◌, ◌++◌, length, map, take, drop, slice_index_or, zero, suc, lit<, refl, sym, ap, subst, ◌∙◌, arith, length-append}
+use Rattle.std.proofs.Common.{ℕ, ◌≡◌, ◌+◌, ◌-◌, ◌<◌, ◌≤◌, List, [], ◌∷◌, ◌++◌, length, map, take, drop, slice_index_or, zero, suc, lit<, refl, sym, ap, subst, ◌∙◌, arith, length-append}
 use Rattle.std.specs.List.{AllByRecursion}
 use Rattle.std.proofs.lemmas.List.{append-nil, take-append-drop, take_all}
 use Rattle.std.proofs.lemmas.Grind.{take_at_read}
 use Rattle.kn_logic.specs.Constraints.{Bounded}
 use Rattle.kn_diagram.specs.Diagrams.{function_of}
-use Rattle.kn_diagram.specs.Wide.{DependsOn, Ignores}
 use Rattle.kn_diagram.proofs.Public.{Keeps-self, Keeps-along, function_of-constant}
 use Rattle.kn_quant.specs.Quantified.{some_value}
 use Rattle.kn_quant.specs.Runs.{Function, Join, Quantify, both, joins, whole, Splits, clause_function, AreNarrow}
@@ -91,50 +90,11 @@ joined-stops old now first node other others more stage level piece j s =
     (subst (λ p. StopsIn now (Join p (function_of old.table other) ∷ []) stage level) j.is_given.function
     (subst (λ q. StopsIn now (Join (function_of now.table node) q ∷ []) stage level) o s))))
 
--- one more piece goes into the bucket, or into the rest
-pub splits-bucket : (y : ℕ) (ps bucket rest : List Function) (p : Function) → Splits y ps bucket rest → DependsOn p y → Splits y (ps ++ p ∷ []) (bucket ++ p ∷ []) rest
-splits-bucket y [] bucket rest p s d = inl ([], ap (λ z. z ++ p ∷ []) s.0, d, (refl, s.1))
-splits-bucket y (q ∷ ps) bucket rest p (inl (more, e, own, s)) d = inl (more ++ p ∷ [], ap (λ z. z ++ p ∷ []) e, own, splits-bucket y ps more rest p s d)
-splits-bucket y (q ∷ ps) bucket rest p (inr (more, e, own, s)) d = inr (more, e, own, splits-bucket y ps bucket more p s d)
-
-pub splits-rest : (y : ℕ) (ps bucket rest : List Function) (p : Function) → Splits y ps bucket rest → Ignores p y → Splits y (ps ++ p ∷ []) bucket (rest ++ p ∷ [])
-splits-rest y [] bucket rest p s d = inr ([], ap (λ z. z ++ p ∷ []) s.1, d, (s.0, refl))
-splits-rest y (q ∷ ps) bucket rest p (inl (more, e, own, s)) d = inl (more, e, own, splits-rest y ps more rest p s d)
-splits-rest y (q ∷ ps) bucket rest p (inr (more, e, own, s)) d = inr (more ++ p ∷ [], ap (λ z. z ++ p ∷ []) e, own, splits-rest y ps bucket more p s d)
-
 -- The pieces that were met stand in the bucket or in the rest.
 pub record IsSplit (p : Progress) (y : ℕ) (pieces bucket rest : List ℕ) : Type 0 where
   pub splits : Splits y (functions_of p.table pieces) (functions_of p.table bucket) (functions_of p.table rest)
   pub in_bucket : ArePieces p bucket
   pub in_rest : ArePieces p rest
-
-pub is-split : (p : Progress) (y : ℕ) (pieces bucket rest ps bs : List ℕ) → Splits y (functions_of p.table pieces) (functions_of p.table bucket) (functions_of p.table rest)
-    → ArePieces p bucket → ArePieces p rest → pieces ≡ ps → bucket ≡ bs → IsSplit p y ps bs rest
-is-split p y pieces bucket rest ps bs s a b e f =
-    subst (λ z. IsSplit p y z bs rest) e (subst (λ z. IsSplit p y pieces z rest) f (record { splits = s; in_bucket = a; in_rest = b }))
-
-pub split-none : (p : Progress) (y : ℕ) → IsSplit p y [] [] []
-split-none p y = record { splits = (refl, refl); in_bucket = tt; in_rest = tt }
-
-pub split-bucket : (p : Progress) (y : ℕ) (pieces bucket rest : List ℕ) (n : ℕ) → IsSplit p y pieces bucket rest → IsPiece p n → DependsOn (function_of p.table n) y
-    → IsSplit p y (pieces ++ n ∷ []) (bucket ++ n ∷ []) rest
-split-bucket p y pieces bucket rest n s piece d = record {
-  splits = subst (λ z. Splits y z (functions_of p.table (bucket ++ n ∷ [])) (functions_of p.table rest)) (sym (functions-append p.table pieces (n ∷ [])))
-      (subst (λ z. Splits y (functions_of p.table pieces ++ function_of p.table n ∷ []) z (functions_of p.table rest)) (sym (functions-append p.table bucket (n ∷ [])))
-      (splits-bucket y (functions_of p.table pieces) (functions_of p.table bucket) (functions_of p.table rest) (function_of p.table n) s.splits d));
-  in_bucket = pieces-append p bucket (n ∷ []) s.in_bucket (piece, tt);
-  in_rest = s.in_rest;
-}
-
-pub split-rest : (p : Progress) (y : ℕ) (pieces bucket rest : List ℕ) (n : ℕ) → IsSplit p y pieces bucket rest → IsPiece p n → Ignores (function_of p.table n) y
-    → IsSplit p y (pieces ++ n ∷ []) bucket (rest ++ n ∷ [])
-split-rest p y pieces bucket rest n s piece d = record {
-  splits = subst (λ z. Splits y z (functions_of p.table bucket) (functions_of p.table (rest ++ n ∷ []))) (sym (functions-append p.table pieces (n ∷ [])))
-      (subst (λ z. Splits y (functions_of p.table pieces ++ function_of p.table n ∷ []) (functions_of p.table bucket) z) (sym (functions-append p.table rest (n ∷ [])))
-      (splits-rest y (functions_of p.table pieces) (functions_of p.table bucket) (functions_of p.table rest) (function_of p.table n) s.splits d));
-  in_bucket = s.in_bucket;
-  in_rest = pieces-append p rest (n ∷ []) s.in_rest (piece, tt);
-}
 
 takes-pieces : (a b : Progress) (c : Bounded) (node : ℕ) (ns : List ℕ) → Takes a b c node → ArePieces a ns → ArePieces b ns
 takes-pieces a b c node [] t h = tt

@@ -3,6 +3,7 @@ pub mod LeftLemmas
 pub mod ProgressLemmas
 pub mod JoinedLemmas
 pub mod OrderLemmas
+pub mod PieceLemmas
 pub mod MeaningLemmas
 pub mod RunLemmas
 pub mod OneRunLemmas

@@ -70,9 +70,6 @@ order-within g x e =
     (sym (list_any-IsPermutation (λ v. v == x) (map (λ l. l.variable) g.border ++ g.aux) (order_of g) (IsPermutation-reverse (map (λ l. l.variable) g.border ++ g.aux)))
     ∙ list_any-append (λ v. v == x) (map (λ l. l.variable) g.border) g.aux ∙ e)
 
-pub aux-within : (g : Gathered) (x : ℕ) → is_among g.aux x ≡ true → depth_in (order_of g) x < length (order_of g)
-aux-within g x e = order-within g x (or_right (is_among (map (λ l. l.variable) g.border) x) (is_among g.aux x) e)
-
 -- the variable of a literal of the border is one of the border's
 pub has-variable : (ls : List Literal) (l : Literal) → has ls l ≡ true → is_among (map (λ k. k.variable) ls) l.variable ≡ true
 has-variable [] l e = absurd (true≢false (sym e))

@@ -1,9 +1,7 @@
 -- The turns of a run one after another, its end, and where it stops.
-use Rattle.std.proofs.Common.{ℕ, zero, suc, ◌≡◌, ◌+◌, ◌<◌, ◌≤◌, ◌==◌, inl, inr, Bool, true, drop, slice_index_or, List, [], ◌∷◌, ◌++◌, length, map, refl, sym, ap, subst, ◌∙◌, arith, append_assoc}
-use Rattle.std.proofs.lemmas.List.{append-nil, drop_all}
-use Rattle.std.proofs.lemmas.Bool.{eq-eqb, or_left, or_right}
-use Rattle.std.proofs.Math.Seq.{drop-cons}
-use Rattle.kn_logic.specs.Groups.{Gathered, IsGroup, is_among}
+use Rattle.std.proofs.Common.{ℕ, ◌≡◌, inl, inr, Bool, List, [], ◌∷◌, ◌++◌, map, refl, sym, ap, subst, ◌∙◌, append_assoc}
+use Rattle.std.proofs.lemmas.List.{append-nil}
+use Rattle.kn_logic.specs.Groups.{Gathered, IsGroup}
 use Rattle.kn_diagram.specs.Diagrams.{function_of}
 use Rattle.kn_diagram.specs.Wide.{IsWideAt}
 use Rattle.kn_quant.specs.Runs.{Function, Step, given, all_joins, Runs, Begins, order_of, clause_function, AreNarrow, IsFirstWide}
@@ -108,18 +106,3 @@ pub elimination-never : (g : Gathered) (e : Eliminated) → IsEliminationOf g e 
 elimination-never g e h stage level =
     never-wide g (steps_of e.table e.stages) (buckets_of e.table e.buckets) (function_of e.table e.result) stage level h.run
     (subst (λ o. AreNarrow o (steps_of e.table e.stages)) h.order h.narrow)
-
--- the variable whose turn it is
-pub in-turn-at : (g : Gathered) (p : Progress) (pieces : List ℕ) (i y : ℕ) → i < length g.aux → y ≡ slice_index_or g.aux i 0 → InTurn g p (drop i g.aux) pieces
-    → InTurn g p (y ∷ drop (i + 1) g.aux) pieces
-in-turn-at g p pieces i y h e t =
-    let next : suc i ≡ i + 1 = omega arith in
-    subst (λ z. InTurn g p z pieces) (drop-cons g.aux i 0 h ∙ (λ j. sym e j ∷ drop (next j) g.aux)) t
-
-pub in-turn-last : (g : Gathered) (p : Progress) (pieces : List ℕ) (i : ℕ) → length g.aux ≤ i → InTurn g p (drop i g.aux) pieces → InTurn g p [] pieces
-in-turn-last g p pieces i h t = subst (λ z. InTurn g p z pieces) (drop_all i g.aux h) t
-
-pub at-among : (ys : List ℕ) (i y : ℕ) → i < length ys → y ≡ slice_index_or ys i 0 → is_among ys y ≡ true
-at-among [] i y h e = absurd (omega arith)
-at-among (x ∷ ys) zero y h e = or_left (x == y) (is_among ys y) (eq-eqb x y (sym e))
-at-among (x ∷ ys) (suc i) y h e = or_right (x == y) (is_among ys y) (at-among ys i y (omega arith) e)

@@ -2,3 +2,4 @@ pub mod Quantified
 pub mod Runs
 pub mod Eliminations
 pub mod Rebuilt
+pub mod Pieces

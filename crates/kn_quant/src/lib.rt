@@ -8,6 +8,7 @@
 mod elimination;
 mod error;
 mod laws;
+mod piece;
 mod quantify;
 mod run;
 mod stage;

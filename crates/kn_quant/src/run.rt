@@ -1,10 +1,12 @@
-ghost use Rattle.std.specs.Prelude.{ℕ, ◌≡◌, ◌<◌, [], true, length, nat_eq, IfOk, IfErr, OnOk};
+ghost use Rattle.std.specs.Prelude.{ℕ, ◌≡◌, ◌<◌, [], ◌∷◌, true, length, nat_eq, IfOk, IfErr, OnOk};
 ghost use Rattle.std.specs.List.{AllByRecursion, IsDistinct};
 ghost use Rattle.kn_logic.specs.Constraints.{is_clause};
-ghost use Rattle.kn_diagram.specs.Diagrams.{IsNode, function_of, depth_in};
-ghost use Rattle.kn_quant.specs.Runs.{Splits, joins, whole, order_of, IsFirstWide};
+ghost use Rattle.kn_diagram.specs.Diagrams.{IsNode, function_of};
+ghost use Rattle.kn_quant.specs.Pieces.{nodes_of, marked_nodes, unmarked, AreMarked, AreOnTop};
+ghost use Rattle.kn_quant.specs.Runs.{joins, whole, order_of, IsFirstWide};
 ghost use Rattle.kn_quant.specs.Eliminations.{IsPiece, Makes, IsGiven, StopsIn, IfWideStage, IsEliminationOf, ArePieces, functions_of, Turns, TurnStops, Gathers, AreInOrder, WorkStops, Concludes};
 
+use crate::piece::Piece;
 use crate::work::Work;
 use crate::{Elimination, QuantError};
 use kn_diagram::{Diagrams, Node};
@@ -22,11 +24,14 @@ pub fn eliminate(alloc: Global, group: &Group) -> Result<Elimination, QuantError
 {
     let order = order_of(alloc, group)?;
     let mut work = Work::new(alloc, Diagrams::new(alloc, &order)?);
-    let mut pieces = take_all(alloc, &mut work, group.taken())?;
-    for var in group.aux() {
-        pieces = turn(alloc, &mut work, *var, pieces)?;
+    let mut pieces = take_all(alloc, &mut work, group.taken(), group.aux())?;
+    let mut left = group.aux();
+    while let [var, later @ ..] = left {
+        pieces = turn(alloc, &mut work, *var, later, pieces)?;
+        left = later;
     }
-    conclude(work, &pieces)
+    let nodes = nodes(alloc, &pieces)?;
+    conclude(work, &nodes)
 }
 
 // The order of the diagrams' variables, from the top.
@@ -44,67 +49,84 @@ fn order_of(alloc: Global, group: &Group) -> Result<Vec<u64>, NoMemory>
 }
 
 // Takes the clauses in order. Their nodes are the pieces.
-fn take_all(alloc: Global, work: &mut Work, clauses: &[Constraint]) -> Result<Vec<Node>, NoMemory>
+fn take_all(
+    alloc: Global,
+    work: &mut Work,
+    clauses: &[Constraint],
+    aux: &[u64],
+) -> Result<Vec<Piece>, NoMemory>
     requires fresh { work.old.stages ≡ [] }
     requires none { work.old.buckets ≡ [] }
     requires first { work.old.taken ≡ 0 }
     requires clauses { AllByRecursion (λ c. is_clause c ≡ true) clauses.now }
     requires within { AllByRecursion (AreInOrder work.old.table.order) clauses.now }
-    ensures { IfOk result (λ pieces. Gathers work.old work.new clauses.now pieces.items) }
+    requires on_top { AreOnTop work.old.table.order aux.now }
+    ensures gathers { IfOk result (λ pieces. Gathers work.old work.new clauses.now (nodes_of pieces.items)) }
+    ensures marked { IfOk result (λ pieces. AreMarked work.new.table aux.now pieces.items) }
 {
     let mut pieces = Vec::new(alloc);
     for clause in clauses {
-        pieces.push(work.take(clause)?)?;
+        let node = work.take(clause)?;
+        let lowest = work.diagrams().deepest_above(node, aux.len())?;
+        pieces.push(Piece { node, lowest })?;
     }
     Ok(pieces)
 }
 
-// The turn of a variable. Gives the pieces that are there then.
+// The turn of a variable, before the later ones. Gives the pieces that are there then.
 fn turn(
     alloc: Global,
     work: &mut Work,
     var: u64,
-    pieces: Vec<Node>,
-) -> Result<Vec<Node>, QuantError>
-    requires within { depth_in work.old.table.order var < length work.old.table.order }
-    requires pieces { ArePieces work.old pieces.items }
-    ensures turn { IfOk result (λ next. Turns work.old work.new var pieces.items next.items) }
+    later: &[u64],
+    pieces: Vec<Piece>,
+) -> Result<Vec<Piece>, QuantError>
+    requires on_top { AreOnTop work.old.table.order (var ∷ later.now) }
+    requires pieces { ArePieces work.old (nodes_of pieces.items) }
+    requires marked { AreMarked work.old.table (var ∷ later.now) pieces.items }
+    ensures turn { IfOk result (λ next. Turns work.old work.new var (nodes_of pieces.items) (nodes_of next.items)) }
+    ensures marked { IfOk result (λ next. AreMarked work.new.table later.now next.items) }
     ensures empty { IfOk result (λ next. next.items ≡ [] → (pieces.items ≡ []) × (work.new ≡ work.old)) }
-    ensures wide { IfErr result (λ e. IfWideStage e (TurnStops work.old var pieces.items)) }
+    ensures wide { IfErr result (λ e. IfWideStage e (TurnStops work.old var (nodes_of pieces.items))) }
 {
-    let (bucket, mut rest) = split(alloc, work, var, &pieces)?;
+    let (bucket, mut rest) = split(alloc, var, &pieces)?;
     let [first, others @ ..] = bucket.as_slice() else {
         return Ok(pieces);
     };
     let function = conjoin(work, *first, others)?;
     work.note(var, function)?;
-    rest.push(work.exists(var, function)?)?;
+    let node = work.exists(var, function)?;
+    let lowest = work.diagrams().deepest_above(node, later.len())?;
+    rest.push(Piece { node, lowest })?;
     Ok(rest)
 }
 
-// The pieces that depend on a variable, and the rest of them, both in order.
-fn split(
-    alloc: Global,
-    work: &Work,
-    var: u64,
-    pieces: &[Node],
-) -> Result<(Vec<Node>, Vec<Node>), NoMemory>
-    requires within { depth_in work.now.table.order var < length work.now.table.order }
-    requires pieces { ArePieces work.now pieces.now }
-    ensures splits { IfOk result (λ p. Splits var (functions_of work.now.table pieces.now) (functions_of work.now.table p.0.items) (functions_of work.now.table p.1.items)) }
-    ensures bucket { IfOk result (λ p. ArePieces work.now p.0.items) }
-    ensures rest { IfOk result (λ p. ArePieces work.now p.1.items) }
+// The nodes of the pieces whose lowest variable is this one, and the other pieces, both in order.
+fn split(alloc: Global, var: u64, pieces: &[Piece]) -> Result<(Vec<Node>, Vec<Piece>), NoMemory>
+    ensures bucket { IfOk result (λ p. p.0.items ≡ marked_nodes var pieces.now) }
+    ensures rest { IfOk result (λ p. p.1.items ≡ unmarked var pieces.now) }
 {
     let mut bucket = Vec::new(alloc);
     let mut rest = Vec::new(alloc);
     for piece in pieces {
-        if work.diagrams().depends(*piece, var)? {
-            bucket.push(*piece)?;
+        if piece.is_of(var) {
+            bucket.push(piece.node)?;
         } else {
             rest.push(*piece)?;
         }
     }
     Ok((bucket, rest))
+}
+
+// The nodes of pieces.
+fn nodes(alloc: Global, pieces: &[Piece]) -> Result<Vec<Node>, NoMemory>
+    ensures { IfOk result (λ nodes. nodes.items ≡ nodes_of pieces.now) }
+{
+    let mut nodes = Vec::new(alloc);
+    for piece in pieces {
+        nodes.push(piece.node)?;
+    }
+    Ok(nodes)
 }
 
 // Joins pieces from the first on, each conjunction with a further piece being a stage.

@@ -39,7 +39,7 @@ use Rattle.kn_tool.specs.Conversions as conversions
 use Rattle.kn_tool.specs.Conversions.{ConvertedRow}
 use Rattle.kn_tool.specs.Trims as trims
 use Rattle.kn_tool.specs.Trims.{TrimmedRow}
-use Rattle.kn_tool.specs.Replies.{IsReply, IsPlain, IsShort, IsRefusal, IsUnread, IsTrimReply, verdict_of}
+use Rattle.kn_tool.specs.Replies.{IsReply, IsPlain, IsShortMemory, IsRefusal, IsUnread, IsTrimReply, verdict_of}
 use Rattle.kn_tool.proofs.Replies.{plain_reply, short_reply, wider_reply}
 
 -- a source that was not read whole
@@ -66,7 +66,7 @@ unread_formula s r is = wider_reply (UnreadRow Formula s) (NoFormulaRow s) r (λ
 pub unread_proof : (proof : Change Source) (f : Problem) (r : Reply) → IsReply (UnreadRow Proof proof) r → IsReply (CheckedRow proof f) r
 unread_proof proof f r is = wider_reply (UnreadRow Proof proof) (CheckedRow proof f) r (λ answer told row. checks.unread row) is
 
-pub unchecked_reply : (proof : Change Source) (f : Problem) (r : Reply) → IsShort r → IsReply (CheckedRow proof f) r
+pub unchecked_reply : (proof : Change Source) (f : Problem) (r : Reply) → IsShortMemory r → IsReply (CheckedRow proof f) r
 unchecked_reply proof f r is = short_reply (CheckedRow proof f) r checks.no_memory is
 
 row_of_verdict : (proof : Change Source) (f : Problem) (text read : List ℕ) (found : Checked) (r : Reply) → GivesAll proof text → read ≡ text
@@ -103,14 +103,14 @@ large_reply f error n r is large told =
     let known = rw is at large in
     plain_reply (ConvertedRow f) _ r (conversions.too_large known.0) conversions.no_memory told
 
-pub unconverted_reply : (f : Problem) (r : Reply) → IsShort r → IsReply (ConvertedRow f) r
+pub unconverted_reply : (f : Problem) (r : Reply) → IsShortMemory r → IsReply (ConvertedRow f) r
 unconverted_reply f r is = short_reply (ConvertedRow f) r conversions.no_memory is
 
 -- a proof that was trimmed, or was not
 pub untrimmed_proof : (proof : Change Source) (f : Problem) (r : Reply) → IsReply (UnreadRow Proof proof) r → IsReply (TrimmedRow proof f) r
 untrimmed_proof proof f r is = wider_reply (UnreadRow Proof proof) (TrimmedRow proof f) r (λ answer told row. trims.unread row) is
 
-pub untrimmed_reply : (proof : Change Source) (f : Problem) (r : Reply) → IsShort r → IsReply (TrimmedRow proof f) r
+pub untrimmed_reply : (proof : Change Source) (f : Problem) (r : Reply) → IsShortMemory r → IsReply (TrimmedRow proof f) r
 untrimmed_reply proof f r is = short_reply (TrimmedRow proof f) r trims.no_memory is
 
 pub trimmed_reply : (proof : Change Source) (f : Problem) (text read : List ℕ) (found : Trimmed) (r : Reply) → GivesAll proof text → read ≡ text

@@ -9,7 +9,7 @@ use Rattle.kn_tool.specs.Answers.{own_text, usage_text}
 use Rattle.kn_tool.specs.Changes.{Change, Source, Sink}
 use Rattle.kn_tool.specs.Files.{Rows, Accepts, NoFormulaRow, FormulaRow, accepted, no_formula}
 use Rattle.kn_tool.specs.Outcomes.{Told, whole, silent, cut, AnswersUsage}
-use Rattle.kn_tool.specs.Replies.{IsReply, IsPlain, IsShort, Sent, IsTold}
+use Rattle.kn_tool.specs.Replies.{IsReply, IsPlain, IsShortMemory, Sent, IsTold}
 
 pub plain_reply : (row : Rows) (answer : Answer) (r : Reply) → row answer (own_text answer) → row NoMemory None → IsPlain answer r → IsReply row r
 plain_reply row answer (reply.Text told text) own none is =
@@ -17,7 +17,7 @@ plain_reply row answer (reply.Text told text) own none is =
 plain_reply row answer reply.Usage own none is = absurd is
 plain_reply row answer (reply.Silent told) own none is = subst (λ a. row a None) (sym is) none
 
-pub short_reply : (row : Rows) (r : Reply) → row NoMemory None → IsShort r → IsReply row r
+pub short_reply : (row : Rows) (r : Reply) → row NoMemory None → IsShortMemory r → IsReply row r
 short_reply row r none is = subst (IsReply row) (sym is) none
 
 -- a command that reads a formula

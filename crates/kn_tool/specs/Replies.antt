@@ -37,19 +37,19 @@ IsPlain answer (reply.Text told text) = (told ≡ answer) × (text.items ≡ ans
 IsPlain answer reply.Usage = ⊥
 IsPlain answer (reply.Silent told) = told ≡ NoMemory
 
-abbrev pub IsShort : Reply → Type 0
-IsShort r = r ≡ reply.Silent NoMemory
+abbrev pub IsShortMemory : Reply → Type 0
+IsShortMemory r = r ≡ reply.Silent NoMemory
 
 -- the reply where a source was not read whole
 abbrev pub IsUnread : Which → ReadAll → Reply → Type 0
 IsUnread which reading.Fault r = IsPlain (ReadFault which) r
 IsUnread which reading.TooLong r = IsPlain (TooLong which) r
-IsUnread which reading.Memory r = IsShort r
+IsUnread which reading.Memory r = IsShortMemory r
 
 -- the reply to a text that is no formula
 abbrev pub IsRefusal : ReadError → Reply → Type 0
 IsRefusal (faults.Refused found) r = IsPlain (Refused found.line found.why) r
-IsRefusal faults.Memory r = IsShort r
+IsRefusal faults.Memory r = IsShortMemory r
 
 -- the answer to a proof that was checked
 abbrev pub verdict_of : Checked → Answer

@@ -4,7 +4,7 @@ ghost use Rattle.kn_tool.specs.Checks.{CheckRow, CheckedRow};
 ghost use Rattle.kn_tool.specs.Replies.{IsReply, verdict_of};
 
 use crate::files::{read_source, understand};
-use crate::reply::{Reply, reply_of, short};
+use crate::reply::{Reply, reply_of, short_memory};
 use crate::{Answer, Which};
 use kn_bytes::Source;
 use kn_logic::Formula;
@@ -35,7 +35,7 @@ fn check_formula<Q: Source>(alloc: Global, f: &Formula, proof: &mut Q) -> Reply
     };
     match check(alloc, f, &text) {
         Ok(checked) => reply_of(alloc, verdict(checked)),
-        Err(_) => short(),
+        Err(_) => short_memory(),
     }
 }
 

@@ -6,7 +6,7 @@ ghost use Rattle.kn_tool.specs.Replies.{IsReply};
 
 use crate::Answer;
 use crate::files::understand;
-use crate::reply::{Reply, reply_of, short};
+use crate::reply::{Reply, reply_of, short_memory};
 use kn_bytes::Source;
 use kn_counter::{CountError, counted};
 use kn_format::write_cnf;
@@ -35,9 +35,9 @@ fn convert_formula(alloc: Global, f: &Formula) -> Reply
                 answer: Answer::Done,
                 text,
             },
-            Err(_) => short(),
+            Err(_) => short_memory(),
         },
         Err(CountError::TooLarge { .. }) => reply_of(alloc, Answer::Refused { line: 0, why: 12 }),
-        Err(CountError::Memory) => short(),
+        Err(CountError::Memory) => short_memory(),
     }
 }

@@ -3,7 +3,7 @@ ghost use Rattle.kn_tool.specs.Changes.{source_change, GivesAll};
 ghost use Rattle.kn_tool.specs.Files.{Accepts, UnreadRow, NoFormulaRow};
 ghost use Rattle.kn_tool.specs.Replies.{IsReply, IsRefusal, IsUnread};
 
-use crate::reply::{Reply, reply_of, short};
+use crate::reply::{Reply, reply_of, short_memory};
 use crate::{Answer, Which};
 use kn_bytes::{ReadAll, Source, read_all};
 use kn_format::{ReadError, read_formula};
@@ -40,7 +40,7 @@ fn refusal(alloc: Global, error: ReadError) -> Reply
                 why: refusal.why,
             },
         ),
-        ReadError::Memory => short(),
+        ReadError::Memory => short_memory(),
     }
 }
 
@@ -62,6 +62,6 @@ fn unread(alloc: Global, which: Which, error: ReadAll) -> Reply
     match error {
         ReadAll::Fault => reply_of(alloc, Answer::ReadFault { which }),
         ReadAll::TooLong => reply_of(alloc, Answer::TooLong { which }),
-        ReadAll::Memory => short(),
+        ReadAll::Memory => short_memory(),
     }
 }

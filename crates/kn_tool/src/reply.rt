@@ -1,4 +1,4 @@
-ghost use Rattle.kn_tool.specs.Replies.{IsPlain, IsShort};
+ghost use Rattle.kn_tool.specs.Replies.{IsPlain, IsShortMemory};
 
 use crate::Answer;
 use crate::answer::text_of;
@@ -21,13 +21,13 @@ pub fn reply_of(alloc: Global, answer: Answer) -> Reply
 {
     match text_of(alloc, &answer) {
         Ok(text) => Reply::Text { answer, text },
-        Err(_) => short(),
+        Err(_) => short_memory(),
     }
 }
 
 /// The reply where memory is short.
-pub fn short() -> Reply
-    ensures { IsShort result }
+pub fn short_memory() -> Reply
+    ensures { IsShortMemory result }
 {
     Reply::Silent {
         answer: Answer::NoMemory,

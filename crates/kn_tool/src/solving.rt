@@ -7,7 +7,7 @@ ghost use Rattle.kn_search.specs.declared.outcome.Outcome.TheVariants.{Model};
 
 use crate::answer::text_of;
 use crate::files::understand;
-use crate::reply::{Reply, reply_of, short};
+use crate::reply::{Reply, reply_of, short_memory};
 use crate::{Answer, Which};
 use kn_bytes::{Sink, Source};
 use kn_format::write_model;
@@ -93,7 +93,7 @@ fn reply_of_model(alloc: Global, model: &Assignment) -> Reply
             answer: Answer::Model,
             text,
         },
-        Err(_) => short(),
+        Err(_) => short_memory(),
     }
 }
 

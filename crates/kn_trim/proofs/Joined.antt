@@ -1,17 +1,13 @@
 -- What was read, marked and written is the trimmed text.
-use Rattle.std.proofs.Common.{◌≡◌, ℕ, ◌+◌, ◌≤◌, Bool, false, List, [], ◌∷◌, length, refl, sym, ap, ◌∙◌, subst, arith}
+use Rattle.std.proofs.Common.{◌≡◌, ℕ, ◌+◌, ◌≤◌, Bool, false, List, [], ◌∷◌, length, sym, ap, ◌∙◌, subst, arith}
 use Rattle.std.proofs.lemmas.List.{length-replicate}
-use Rattle.kn_logic.specs.Formulas.{Problem, IsFormula}
+use Rattle.kn_logic.specs.Formulas.{Problem}
 use Rattle.kn_lines.specs.declared.line.Line.{Line}
-use Rattle.kn_rules.specs.States.{start}
-use Rattle.kn_rules.specs.Proofs.{IsProof}
-use Rattle.kn_trim.specs.Used.{lean_lines}
 use Rattle.kn_trim.specs.Needed.{Kept, AreNeeded, AreMet, IsTrimmed, kept_by, kept_lines, proof_text, ids_given, variables_given}
 use Rattle.kn_trim.specs.Marking.{Place, HasRoom, behind, marked, none_of, place_at, place_of}
 use Rattle.kn_trim.specs.Reading.{IsLean}
 use Rattle.kn_trim.proofs.Least.{marked-needed}
 use Rattle.kn_trim.proofs.Named.{none-marked}
-use Rattle.kn_trim.proofs.Sound.{trimmed-is-proof}
 
 -- the marks have room for what each line finds, since they have for all
 abbrev HasAll : ℕ → ℕ → Place → List Line → Type 0

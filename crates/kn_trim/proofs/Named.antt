@@ -1,7 +1,7 @@
 -- A line that steps names only what was given before it.
-use Rattle.std.proofs.Common.{◌≡◌, ℕ, zero, suc, ◌+◌, ◌≤◌, ◌||◌, Bool, true, false, cond, leb, List, [], ◌∷◌, ◌++◌, map, replicate, length, Option, None, Some, Result, Ok, Err, refl, sym, ap, ◌∙◌, subst, arith}
-use Rattle.std.specs.List.{AllByRecursion, list_any, slice_get}
-use Rattle.std.specs.Option.{is_none, option_and_then}
+use Rattle.std.proofs.Common.{◌≡◌, ℕ, zero, suc, ◌+◌, ◌≤◌, ◌||◌, Bool, true, false, cond, leb, List, [], ◌∷◌, replicate, length, Option, None, Some, Result, Ok, Err, refl, sym, ap, ◌∙◌, subst, arith}
+use Rattle.std.specs.List.{list_any, slice_get}
+use Rattle.std.specs.Option.{is_none}
 use Rattle.std.proofs.lemmas.Option.{slice_get_within}
 use Rattle.std.proofs.lemmas.Bool.{and_parts, leb-true}
 use Rattle.std.proofs.lemmas.List.{length-map, length-replicate}
@@ -9,7 +9,6 @@ use Rattle.std.proofs.Math.Bool.{or_assoc}
 use Rattle.kn_logic.specs.Literals.{Literal}
 use Rattle.kn_logic.specs.Constraints.{Bounded}
 use Rattle.kn_logic.specs.Formulas.{Problem}
-use Rattle.kn_logic.specs.Propagation.{after_hint}
 use Rattle.kn_logic.proofs.Public.{All-append}
 use Rattle.kn_text.specs.Lines.{Line as TextLine, content_of}
 use Rattle.kn_lines.specs.declared.line.Arm.{Arm}
@@ -23,10 +22,9 @@ use Rattle.kn_rules.specs.States.{ProofState, start, from_file, given_at, live_a
 use Rattle.kn_rules.specs.Steps.{are_known, is_known_variable, is_known_arm, hinted, deleted, without, with_given, step}
 use Rattle.kn_rules.specs.Proofs.{IsProof, StepsThrough, Runs}
 use Rattle.kn_trim.specs.Numbers.{mark_at}
-use Rattle.kn_trim.specs.Used.{picked, is_used, used_marks, lean, lean_lines}
+use Rattle.kn_trim.specs.Used.{lean, lean_lines}
 use Rattle.kn_trim.specs.Needed.{Kept, kept_by, variables_of, arm_variables, named_variables, named_ids, ids_given, variables_given, is_end, AreWithin, AreNeeded, AreSpelled, AreBehindHeader, IsTrimmed, kept_lines, proof_text}
 use Rattle.kn_trim.specs.Marking.{Place, behind, marked, AreBefore, NameBefore, HasRoom}
-use Rattle.kn_trim.specs.Noting.{used_after, used_at, used_from}
 use Rattle.kn_trim.proofs.Follows.{live_in, given-at, hinted-parts}
 use Rattle.kn_trim.proofs.Growing.{deleted-length}
 use Rattle.kn_trim.proofs.Stepping.{follow-parts, count-parts}

@@ -1,20 +1,20 @@
 -- Reading a proof line by line, of which each steps.
-use Rattle.std.proofs.Common.{◌≡◌, ℕ, ◌+◌, ◌++◌, ◌||◌, Bool, true, false, List, [], ◌∷◌, map, length, Result, Ok, Err, refl, sym, ap, ◌∙◌, subst, append_assoc, arith}
-use Rattle.std.specs.List.{AllByRecursion, list_any}
+use Rattle.std.proofs.Common.{◌≡◌, ℕ, ◌+◌, ◌++◌, true, false, List, [], ◌∷◌, length, Result, Ok, Err, refl, sym, ap, ◌∙◌, subst, append_assoc, arith}
+use Rattle.std.specs.List.{AllByRecursion}
 use Rattle.std.specs.Result.{IsOk}
 use Rattle.std.proofs.lemmas.List.{append-nil, length-map, length-replicate}
 use Rattle.kn_logic.specs.Literals.{Literal}
 use Rattle.kn_logic.specs.Formulas.{Problem}
-use Rattle.kn_text.specs.Lines.{Line as TextLine, content_from, content_of, is_skipped, lines_of, unless_skipped, words_of}
+use Rattle.kn_text.specs.Lines.{Line as TextLine, content_from, content_of, is_skipped, lines_of, words_of}
 use Rattle.kn_lines.specs.declared.line.Line.{Line}
 use Rattle.kn_lines.specs.Lines.{SpellsWords, SpellsNone, IsWellFormed}
 use Rattle.kn_lines.proofs.Public.{one_spelling}
 use Rattle.kn_rules.specs.Marks.{AssumedLiterals}
 use Rattle.kn_rules.specs.States.{ProofState, start, from_file}
 use Rattle.kn_rules.specs.Steps.{step}
-use Rattle.kn_rules.specs.Proofs.{Makes, Runs, StepsThrough, IsProof}
+use Rattle.kn_rules.specs.Proofs.{Runs, StepsThrough, IsProof}
 use Rattle.kn_trim.specs.Used.{lean, lines_from, lean_lines}
-use Rattle.kn_trim.specs.Needed.{AreSpelled, AreBehindHeader, is_end, ids_given, variables_given}
+use Rattle.kn_trim.specs.Needed.{AreSpelled, AreBehindHeader, ids_given, variables_given}
 use Rattle.kn_trim.specs.Marking.{Place, behind, place_at, place_of, none_of}
 use Rattle.kn_trim.specs.Reading.{Read, IsIdle, Takes, IsBehindFirst, IsLean}
 use Rattle.kn_trim.proofs.Stepping.{made-is}

@@ -11,7 +11,7 @@ use Rattle.kn_lines.specs.declared.line.Arm.{Arm}
 use Rattle.kn_lines.specs.declared.line.Arm.TheVariants as arm
 use Rattle.kn_lines.specs.declared.line.Line.{Line}
 use Rattle.kn_lines.specs.declared.line.Line.TheVariants.{Header, Define, Lemma, Learned, Klause, Unfold, Delete}
-use Rattle.kn_lines.specs.Lines.{line_words, SpellsWords, IsWellFormed, IsInRange, AreIds, AreNumbers, AreLiterals, IsArmInRange}
+use Rattle.kn_lines.specs.Lines.{line_words, SpellsWords, IsWellFormed, IsInRange, AreNumbers, AreLiterals, IsArmInRange}
 use Rattle.kn_lines.proofs.Public.{written_words_spell, written_is_plain, written_is_content, spelled_is_in_range}
 use Rattle.kn_lines.proofs.Public.{one_spelling, spelled_is_formed}
 use Rattle.kn_rules.specs.States.{ProofState, start}

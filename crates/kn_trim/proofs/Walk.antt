@@ -1,7 +1,7 @@
 -- One turn of the walk from the last line to the first.
-use Rattle.std.proofs.Common.{◌≡◌, ℕ, zero, suc, ◌+◌, ◌-◌, ◌≤◌, ◌<◌, ◌&&◌, ◌||◌, Bool, false, not, eqb, List, [], ◌∷◌, replicate, set, drop, get_or, length, refl, sym, ap, ◌∙◌, subst, arith}
+use Rattle.std.proofs.Common.{◌≡◌, ℕ, zero, suc, ◌+◌, ◌-◌, ◌≤◌, ◌<◌, ◌&&◌, ◌||◌, Bool, false, not, eqb, List, [], ◌∷◌, drop, get_or, length, refl, sym, ap, ◌∙◌, subst, arith}
 use Rattle.std.specs.Prelude.{slice_index_or, slice_set}
-use Rattle.std.proofs.lemmas.List.{drop-set, length-set, length-replicate}
+use Rattle.std.proofs.lemmas.List.{drop-set, length-replicate}
 use Rattle.kn_lines.specs.declared.line.Line.{Line}
 use Rattle.kn_trim.specs.Needed.{Kept, ids_given, variables_given, named_ids, named_variables, is_end}
 use Rattle.kn_trim.specs.Marking.{is_any, Marked, Place, behind, is_needed, with_mark, marked, AreBefore, NameBefore, none_of, place_at, first_end}

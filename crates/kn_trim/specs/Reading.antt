@@ -8,9 +8,8 @@ use Rattle.kn_lines.specs.Lines.{IsWellFormed}
 use Rattle.kn_rules.specs.Marks.{AssumedLiterals}
 use Rattle.kn_rules.specs.States.{ProofState, start}
 use Rattle.kn_rules.specs.Steps.{step}
-use Rattle.kn_rules.specs.Proofs.{Runs}
 use Rattle.kn_trim.specs.Used.{lean, lean_lines}
-use Rattle.kn_trim.specs.Needed.{AreSpelled, AreBehindHeader, is_end}
+use Rattle.kn_trim.specs.Needed.{AreBehindHeader, is_end}
 use Rattle.kn_trim.specs.Marking.{NameBefore, place_at, place_of}
 
 -- a proof as far as it was read: the state behind its lines so far, and these with their used hints alone

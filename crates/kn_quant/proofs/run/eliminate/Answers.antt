@@ -1,12 +1,14 @@
-use Rattle.std.proofs.Common.{ℕ, ◌≡◌, ◌<◌, ◌≤◌, ◌+◌, sym, ap, subst, rules, drop, length, slice_index_or}
+use Rattle.std.proofs.Common.{◌≡◌, ◌∙◌, sym, ap, subst, rules, slice_index}
 use Rattle.std.specs.List.{AllByRecursion}
 use Rattle.std.proofs.lemmas.Result.{err_from_is_err_and, IfOk-weaker, IfErr-weaker}
-use Rattle.kn_diagram.specs.Diagrams.{depth_in}
+use Rattle.kn_quant.specs.Pieces.{nodes_of, AreMarked, AreOnTop}
 use Rattle.kn_quant.specs.Runs.{order_of, IsFirstWide}
 use Rattle.kn_quant.specs.Eliminations.{AreInOrder, Gathers, TurnStops, WorkStops, Concludes}
 use Rattle.kn_quant.proofs.ProgressLemmas.{if-wide-stage}
-use Rattle.kn_quant.proofs.OrderLemmas.{all-in-order, aux-within}
-use Rattle.kn_quant.proofs.RunLemmas.{in-turn-first, in-turn-at, in-turn-next, in-turn-last, at-among, turn-first-wide, conclude-first-wide, elimination-of, elimination-never}
+use Rattle.kn_quant.proofs.OrderLemmas.{all-in-order}
+use Rattle.kn_quant.proofs.JoinedLemmas.{rest_of, none-of}
+use Rattle.kn_quant.proofs.PieceLemmas.{aux-on-top, nodes-none, first-slot}
+use Rattle.kn_quant.proofs.RunLemmas.{InTurn, in-turn-first, in-turn-next, turn-first-wide, conclude-first-wide, elimination-of, elimination-never}
 use Rattle.kn_quant.proofs.run.eliminate.Goals as goal
 
 pub take_all-requires-clause-within : goal.take_all-requires-clause-within
@@ -15,55 +17,77 @@ take_all-requires-clause-within c =
     subst (λ o. AllByRecursion (AreInOrder o) c.taken.result.now) (sym order)
     (subst (AllByRecursion (AreInOrder (order_of c.args.group.now))) (sym c.taken.ensures.value) (all-in-order c.args.group.now c.args.group.now.taken c.taken.ensures.group.covered))
 
-pub loop-var-init : goal.loop-var-init
-loop-var-init c =
+pub take_all-requires-clause-on_top : goal.take_all-requires-clause-on_top
+take_all-requires-clause-on_top c =
     let order : c.new-work.result.table.order ≡ order_of c.args.group.now = search rules in
-    in-turn-first c.args.group.now c.new-work.result c.take_all.new.work c.in_ok-pieces.pieces.items order
-    (subst (λ cs. Gathers c.new-work.result c.take_all.new.work cs c.in_ok-pieces.pieces.items) c.taken.ensures.value c.in_ok-pieces.ensures)
+    subst (λ o. AreOnTop o c.aux.result.now) (sym order) (subst (AreOnTop (order_of c.args.group.now)) (sym c.aux.ensures.value) (aux-on-top c.args.group.now c.taken.ensures.group))
 
-pub turn-requires-clause-within : goal.turn-requires-clause-within
-turn-requires-clause-within c =
-    let within : c.loop-var.var-index < length c.args.group.now.aux = search rules in
-    subst (λ o. depth_in o (slice_index_or c.aux-var-items.result.now c.loop-var.var-index 0) < length o) (sym c.loop-var.invariant.order)
-    (aux-within c.args.group.now (slice_index_or c.aux-var-items.result.now c.loop-var.var-index 0)
-    (at-among c.args.group.now.aux c.loop-var.var-index (slice_index_or c.aux-var-items.result.now c.loop-var.var-index 0) within (ap (λ xs. slice_index_or xs c.loop-var.var-index 0) c.aux-var-items.ensures.value)))
+pub loop-left-init : goal.loop-left-init
+loop-left-init c =
+    let g = c.args.group.now in
+    let w = c.take_all.new.work in
+    let order : c.new-work.result.table.order ≡ order_of g = search rules in
+    let gathers = subst (λ cs. Gathers c.new-work.result w cs (nodes_of c.in_ok-pieces.pieces.items)) c.taken.ensures.value c.in_ok-pieces.ensures.gathers in
+    record {
+      turn = subst (λ ys. InTurn g w ys (nodes_of c.in_ok-pieces.pieces.items)) (sym c.aux-left.ensures.value)
+          (in-turn-first g c.new-work.result w (nodes_of c.in_ok-pieces.pieces.items) order gathers);
+      marked = subst (λ ys. AreMarked w.table ys c.in_ok-pieces.pieces.items) (c.aux.ensures.value ∙ sym c.aux-left.ensures.value) c.in_ok-pieces.ensures.marked;
+      on_top = subst (AreOnTop w.table.order) (sym c.aux-left.ensures.value)
+          (subst (λ o. AreOnTop o g.aux) (sym (gathers.kept.order ∙ order)) (aux-on-top g c.taken.ensures.group));
+    }
 
 pub returns-in_err-pieces-2-clause-wide : goal.returns-in_err-pieces-2-clause-wide
 returns-in_err-pieces-2-clause-wide c =
+    let g = c.args.group.now in
+    let w = c.loop-left.work in
+    let ns = nodes_of c.loop-left.pieces.items in
+    let left = c.loop-left.left.now in
+    let y = slice_index left 0 in
+    let later = rest_of left in
+    let is = first-slot left c.in-len1-up.len_at_least in
+    let turn = subst (λ ys. InTurn g w ys ns) is c.loop-left.invariant.turn in
     let p = err_from_is_err_and c.from_residual-in_err-pieces-2.result c.from_residual-in_err-pieces-2.ensures.1 in
-    let within : c.loop-var.var-index < length c.args.group.now.aux = search rules in
-    let y : ℕ = slice_index_or c.aux-var-items.result.now c.loop-var.var-index 0 in
-    rw (p.1, p.2) (if-wide-stage c.in_err-pieces-2.field-0.0
-    (TurnStops c.loop-var.work y c.loop-var.pieces.items) (IsFirstWide c.args.group.now)
-    (λ stage level s. turn-first-wide c.args.group.now c.loop-var.work y (drop (c.loop-var.var-index + 1) c.args.group.now.aux) c.loop-var.pieces.items stage level
-    (in-turn-at c.args.group.now c.loop-var.work c.loop-var.pieces.items c.loop-var.var-index y within (ap (λ xs. slice_index_or xs c.loop-var.var-index 0) c.aux-var-items.ensures.value) c.loop-var.invariant) s)
-    c.in_err-pieces-2.ensures.wide)
+    rw (p.1, p.2) (if-wide-stage c.in_err-pieces-2.field-0.0 (TurnStops w y ns) (IsFirstWide g) (λ stage level s. turn-first-wide g w y later ns stage level turn s) c.in_err-pieces-2.ensures.wide)
 
-pub loop-var-preserved : goal.loop-var-preserved
-loop-var-preserved c =
-    let within : c.loop-var.var-index < length c.args.group.now.aux = search rules in
-    let y : ℕ = slice_index_or c.aux-var-items.result.now c.loop-var.var-index 0 in
-    in-turn-next c.args.group.now c.loop-var.work c.turn.new.work y (drop (c.loop-var.var-index + 1) c.args.group.now.aux) c.loop-var.pieces.items c.in_ok-pieces-2.pieces.items
-    (in-turn-at c.args.group.now c.loop-var.work c.loop-var.pieces.items c.loop-var.var-index y within (ap (λ xs. slice_index_or xs c.loop-var.var-index 0) c.aux-var-items.ensures.value) c.loop-var.invariant)
-    c.in_ok-pieces-2.ensures.turn c.in_ok-pieces-2.ensures.empty
+pub loop-left-preserved : goal.loop-left-preserved
+loop-left-preserved c =
+    let g = c.args.group.now in
+    let w = c.loop-left.work in
+    let ns = nodes_of c.loop-left.pieces.items in
+    let left = c.loop-left.left.now in
+    let y = slice_index left 0 in
+    let later = rest_of left in
+    let is = first-slot left c.in-len1-up.len_at_least in
+    let turn = subst (λ ys. InTurn g w ys ns) is c.loop-left.invariant.turn in
+    let next = c.in_ok-pieces-2.pieces.items in
+    record {
+      turn = in-turn-next g w c.turn.new.work y later ns (nodes_of next) turn c.in_ok-pieces-2.ensures.turn
+          (λ e. let k = c.in_ok-pieces-2.ensures.empty (nodes-none next e) in (ap nodes_of k.0, k.1));
+      marked = c.in_ok-pieces-2.ensures.marked;
+      on_top = subst (λ o. AreOnTop o later) (sym c.in_ok-pieces-2.ensures.turn.makes.kept.order) (subst (AreOnTop w.table.order) is c.loop-left.invariant.on_top).2;
+    }
 
 pub returns-clause-run : goal.returns-clause-run
 returns-clause-run c =
-    let past : length c.args.group.now.aux ≤ c.loop-var.var-index = search rules in
+    let g = c.args.group.now in
+    let w = c.loop-left.work in
+    let ns = nodes_of c.loop-left.pieces.items in
+    let turn = subst (λ ys. InTurn g w ys ns) (none-of c.loop-left.left.now c.in_default.len_below) c.loop-left.invariant.turn in
+    let all : c.deref-3.result.now ≡ ns = c.deref-3.ensures.value ∙ c.in_ok-nodes.ensures ∙ ap nodes_of c.deref-2.ensures.value in
     IfOk-weaker c.conclude.result _ _
-    (λ e k. elimination-of c.args.group.now c.loop-var.work e c.loop-var.pieces.items c.taken.ensures.group
-    (in-turn-last c.args.group.now c.loop-var.work c.loop-var.pieces.items c.loop-var.var-index past c.loop-var.invariant)
-    (subst (Concludes c.loop-var.work e) c.deref-2.ensures.value k))
+    (λ e k. elimination-of g w e ns c.taken.ensures.group turn (subst (Concludes w e) all k))
     c.conclude.ensures.concludes
 
 pub returns-clause-wide : goal.returns-clause-wide
 returns-clause-wide c =
-    let past : length c.args.group.now.aux ≤ c.loop-var.var-index = search rules in
+    let g = c.args.group.now in
+    let w = c.loop-left.work in
+    let ns = nodes_of c.loop-left.pieces.items in
+    let turn = subst (λ ys. InTurn g w ys ns) (none-of c.loop-left.left.now c.in_default.len_below) c.loop-left.invariant.turn in
+    let all : c.deref-3.result.now ≡ ns = c.deref-3.ensures.value ∙ c.in_ok-nodes.ensures ∙ ap nodes_of c.deref-2.ensures.value in
     IfErr-weaker c.conclude.result _ _
-    (λ e k. if-wide-stage e (WorkStops c.loop-var.work c.deref-2.result.now) (IsFirstWide c.args.group.now)
-    (λ stage level s. conclude-first-wide c.args.group.now c.loop-var.work c.loop-var.pieces.items stage level
-    (in-turn-last c.args.group.now c.loop-var.work c.loop-var.pieces.items c.loop-var.var-index past c.loop-var.invariant)
-    (subst (λ ps. WorkStops c.loop-var.work ps stage level) c.deref-2.ensures.value s)) k)
+    (λ e k. if-wide-stage e (WorkStops w c.deref-3.result.now) (IsFirstWide g)
+    (λ stage level s. conclude-first-wide g w ns stage level turn (subst (λ ps. WorkStops w ps stage level) all s)) k)
     c.conclude.ensures.wide
 
 pub returns-clause-never : goal.returns-clause-never

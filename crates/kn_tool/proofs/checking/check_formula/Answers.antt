@@ -10,4 +10,4 @@ returns-in-Ok-check-clause-reply g c =
     c.in-Ok-check.ensures.verified c.in-Ok-check.ensures.sound c.in-Ok-check.ensures.wrong c.in-Ok-check.ensures.refused c.verdict.ensures c.reply_of.ensures
 
 pub returns-clause-reply : goal.returns-clause-reply
-returns-clause-reply g c = unchecked_reply _ _ _ c.short.ensures
+returns-clause-reply g c = unchecked_reply _ _ _ c.short_memory.ensures

@@ -1,4 +1,4 @@
-use Rattle.std.proofs.Common.{◌≡◌, false, ap, subst, List, ℕ, Option, IfSome}
+use Rattle.std.proofs.Common.{◌≡◌, false, subst, List, ℕ, Option, IfSome}
 use Rattle.kn_text.specs.Lines.{is_skipped, words_of}
 use Rattle.kn_lines.specs.declared.line.Line.{Line}
 use Rattle.kn_lines.specs.Lines.{SpellsLine}

@@ -1,4 +1,4 @@
-use Rattle.std.proofs.Common.{◌≡◌, ◌++◌, drop, take, map}
+use Rattle.std.proofs.Common.{◌≡◌, ◌++◌, drop, map}
 use Rattle.kn_trim.specs.Numbers.{new_number}
 use Rattle.kn_trim.specs.Needed.{AreMarked, renumbered_literal, variables_of}
 use Rattle.kn_trim.proofs.renumbering.literals.Given as goal

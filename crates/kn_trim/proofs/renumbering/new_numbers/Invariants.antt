@@ -1,5 +1,4 @@
 use Rattle.std.proofs.Common.{◌≡◌, ◌++◌, drop, map}
-use Rattle.kn_lines.specs.Lines.{AreIds}
 use Rattle.kn_trim.specs.Numbers.{new_number}
 use Rattle.kn_trim.specs.Needed.{AreMarked}
 use Rattle.kn_trim.proofs.renumbering.new_numbers.Given as goal

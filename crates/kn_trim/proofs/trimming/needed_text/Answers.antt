@@ -1,5 +1,5 @@
-use Rattle.std.proofs.Common.{◌≡◌, ◌∙◌}
-use Rattle.kn_trim.specs.Needed.{AreNeeded, IsTrimmed}
+use Rattle.std.proofs.Common.{◌∙◌}
+use Rattle.kn_trim.specs.Needed.{AreNeeded}
 use Rattle.kn_trim.proofs.Joined.{needed-own, trimmed-by}
 use Rattle.kn_trim.proofs.Sound.{trimmed-is-proof}
 use Rattle.kn_trim.proofs.trimming.needed_text.Goals as goal

@@ -1,4 +1,4 @@
-use Rattle.std.proofs.Common.{◌+◌, ◌++◌, ◌∷◌, [], List, ap, sym, subst, ◌∙◌}
+use Rattle.std.proofs.Common.{◌+◌, ◌++◌, ◌∷◌, [], ap, sym, subst, ◌∙◌}
 use Rattle.kn_lines.specs.declared.line.Line.{Line}
 use Rattle.kn_rules.specs.Marks.{AssumedLiterals}
 use Rattle.kn_trim.specs.Needed.{variables_given}
