@@ -117,39 +117,56 @@ fn lines_and_hints_are_left_out(rt: HostRuntime) -> Result<(), Fail> {
 #[test]
 fn what_is_kept_is_numbered_anew(rt: HostRuntime) -> Result<(), Fail> {
     let f = contradiction(rt.alloc())?;
-    let g = pairs(rt.alloc())?;
-    let h = guarded(rt.alloc())?;
     let cases = [
         // learned clauses stay learned
         (
-            &f,
             "p kpf 3 2\nl 3 0 1 2 0\nl 1 0 1 2 0\nr 2 0 1 2 0\nl 0 4 5 2 0\n",
             "p kpf 3 2\nl 1 0 1 2 0\nr 2 0 1 2 0\nl 0 3 4 2 0\n",
         ),
         // an unfolding that is used, behind a definition that is not
         (
-            &f,
-            "p kpf 3 2\nd 2 F T\nd 3 T F\nd 2 5 F\nd 2 T 5\nd 1 7 6\ng 1 8\nr 3 0 1 2 0\nr 1 0 23 20 12 11 8 2 0\nr 2 0 25 23 19 16 8 2 0\nx 24 0\nr 0 25 26 2 0\n",
+            "p kpf 3 2\nd 2 F T\nd 3 T F\nd 2 5 F\nd 2 T 5\nd 1 7 6\ng 1 8\nr 3 0 1 2 0\nr 1 0 23 20 12 11 8 2 0\nr 2 0 25 23 19 16 8 2 0\nx 24 0\nr 0 25 26 26 2 1 0\n",
             "p kpf 3 2\nd 3 T F\nd 2 4 F\nd 2 T 4\nd 1 6 5\ng 1 7\nr 1 0 19 16 8 7 4 2 0\nr 2 0 20 19 15 12 4 2 0\nr 0 20 21 2 0\n",
         ),
-        // a klause that is used, with the line of its unit clause
+    ];
+    for (proof, want) in cases {
+        assert!(rt; gives(rt.alloc(), &f, proof, want)?, "{proof}");
+    }
+    Ok(())
+}
+
+#[test]
+fn klauses_are_kept_where_they_are_used(rt: HostRuntime) -> Result<(), Fail> {
+    let f = pairs(rt.alloc())?;
+    let cases = [
+        // with the line of the unit clause
         (
-            &g,
             "p kpf 3 6\nd 3 F T\nr 1 2 0 4 0\nd 2 F 4\nd 2 4 T\nd 1 5 6\nr -1 7 0 1 2 10 15 22 0\nr 7 0 24 23 19 18 3 10 0\nk 2 -1 -2 -3 0 7 25\nr 1 0 4 5 26 0\nr 0 27 26 6 0\n",
             "p kpf 3 6\nd 3 F T\nd 2 F 4\nd 2 4 T\nd 1 5 6\nr -1 7 0 1 2 10 14 21 0\nr 7 0 23 22 18 17 3 10 0\nk 2 -1 -2 -3 0 7 24\nr 1 0 4 5 25 0\nr 0 26 25 6 0\n",
         ),
-        // a klause that is not used
+        // it is a hint that joins nothing
         (
-            &g,
-            "p kpf 3 6\nd 3 F T\nd 2 F 4\nd 2 4 T\nd 1 5 6\nr -1 7 0 1 2 10 14 21 0\nr 7 0 23 22 18 17 3 10 0\nk 2 -1 -2 -3 0 7 24\nr 1 0 4 25 5 3 0\nr 1 0 4 5 3 0\nr 0 27 1 2 6 0\n",
+            "p kpf 3 6\nd 3 F T\nd 2 F 4\nd 2 4 T\nd 1 5 6\nr -1 7 0 1 2 10 14 21 0\nr 7 0 23 22 18 17 3 10 0\nk 2 -1 -2 -3 0 7 24\nr 1 0 4 5 3 25 0\nr 0 26 1 2 6 0\n",
             "p kpf 3 6\nr 1 0 4 5 3 0\nr 0 7 1 2 6 0\n",
         ),
-        // a guard that has no value yet, one that is true, and one that is refuted
-        (&h, "p kpf 3 3\nr 0 1 3 2 1 0\n", "p kpf 3 3\nr 0 3 2 1 0\n"),
-        (&h, "p kpf 3 3\nr 0 2 1 1 3 0\n", "p kpf 3 3\nr 0 2 1 3 0\n"),
     ];
-    for (formula, proof, want) in cases {
-        assert!(rt; gives(rt.alloc(), formula, proof, want)?, "{proof}");
+    for (proof, want) in cases {
+        assert!(rt; gives(rt.alloc(), &f, proof, want)?, "{proof}");
+    }
+    Ok(())
+}
+
+#[test]
+fn guarded_hints_are_used_where_something_joins(rt: HostRuntime) -> Result<(), Fail> {
+    let f = guarded(rt.alloc())?;
+    let cases = [
+        // a guard without a value, and one that is true
+        ("p kpf 3 3\nr 0 1 3 2 1 0\n", "p kpf 3 3\nr 0 3 2 1 0\n"),
+        // a guard that is refuted, and one that is false
+        ("p kpf 3 3\nr 0 2 1 1 3 0\n", "p kpf 3 3\nr 0 2 1 3 0\n"),
+    ];
+    for (proof, want) in cases {
+        assert!(rt; gives(rt.alloc(), &f, proof, want)?, "{proof}");
     }
     Ok(())
 }
