@@ -4,7 +4,7 @@ ghost use Rattle.kn_tool.specs.Trims.{TrimRow, TrimmedRow};
 ghost use Rattle.kn_tool.specs.Replies.{IsReply, IsTrimReply};
 
 use crate::files::{read_source, understand};
-use crate::reply::{Reply, reply_of, short};
+use crate::reply::{Reply, reply_of, short_memory};
 use crate::{Answer, Which};
 use kn_bytes::Source;
 use kn_logic::Formula;
@@ -35,7 +35,7 @@ fn trim_proof<Q: Source>(alloc: Global, f: &Formula, proof: &mut Q) -> Reply
     };
     match trim(alloc, f, &text) {
         Ok(trimmed) => reply_to(alloc, trimmed),
-        Err(_) => short(),
+        Err(_) => short_memory(),
     }
 }
 

@@ -10,4 +10,4 @@ returns-in-Ok-trim-clause-reply g c =
     c.in-Ok-trim.ensures.text c.in-Ok-trim.ensures.verified c.in-Ok-trim.ensures.proof c.in-Ok-trim.ensures.wrong c.in-Ok-trim.ensures.refused c.reply_to.ensures
 
 pub returns-clause-reply : goal.returns-clause-reply
-returns-clause-reply g c = untrimmed_reply _ _ _ c.short.ensures
+returns-clause-reply g c = untrimmed_reply _ _ _ c.short_memory.ensures
