@@ -7,7 +7,7 @@ use Rattle.kn_format.specs.Faults.{IsFirstFault, refusal}
 use Rattle.kn_rules.specs.Proofs.{IsProof, IsFirstWrong, fault}
 use Rattle.kn_tool.specs.declared.answer.Answer.{Answer}
 use Rattle.kn_tool.specs.declared.answer.Answer.TheVariants.{Refused, NoMemory}
-use Rattle.kn_tool.specs.Words.{Asked, check, solve, convert, HasShape, AsksFor}
+use Rattle.kn_tool.specs.Words.{Asked, check, solve, convert, trim, HasShape, AsksFor}
 use Rattle.kn_tool.proofs.Shapes.{one_command}
 use Rattle.kn_tool.specs.Changes.{Change, Source, Sink, GivesAll, GivesTooMany, NoFault, IsSound, IsQuiet, most_bytes}
 use Rattle.kn_tool.specs.Files as files
@@ -18,6 +18,8 @@ use Rattle.kn_tool.specs.Solves as solves
 use Rattle.kn_tool.specs.Solves.{SolveRow, Concludes}
 use Rattle.kn_tool.specs.Conversions as conversions
 use Rattle.kn_tool.specs.Conversions.{ConvertRow, ConvertedRow, Converts}
+use Rattle.kn_tool.specs.Trims as trims
+use Rattle.kn_tool.specs.Trims.{TrimRow, Shortened}
 use Rattle.kn_tool.specs.Outcomes as outcomes
 use Rattle.kn_tool.specs.Outcomes.{Files, RowOf, Told, CompleteOf}
 
@@ -97,17 +99,32 @@ convert_complete formula text answer told sound (files.accepted f accepts row) =
 convert_complete formula text answer told sound (files.no_formula none same) =
     no_formula (Converts text) formula text answer told sound (λ line why known. inl known) tt none
 
+trim_complete : (formula proof : Change Source) (text more : List ℕ) (answer : Answer) (told : Option (List ℕ)) → IsSound formula text → IsSound proof more
+    → TrimRow formula proof answer told → Shortened text more answer
+trim_complete formula proof text more answer told sound also (files.accepted f accepts (trims.done trimmed shortens)) =
+    (f, spelled formula text f sound accepts, subst (IsProof f) (all_told proof more shortens.text also.told shortens.whole) shortens.accepted)
+trim_complete formula proof text more answer told sound also (files.accepted f accepts (trims.not_verified {line = line} {why = why} fails)) =
+    (f, spelled formula text f sound accepts, subst (λ t. IsFirstWrong f t (fault line why)) (all_told proof more fails.text also.told fails.whole) fails.wrong)
+trim_complete formula proof text more answer told sound also (files.accepted f accepts (trims.unread (files.too_long many))) = absurd (not_too_long proof more also many)
+trim_complete formula proof text more answer told sound also (files.accepted f accepts (trims.unread (files.fails faults))) = absurd (no_rise _ _ also.quiet faults.rose)
+trim_complete formula proof text more answer told sound also (files.accepted f accepts (trims.unread files.no_memory)) = tt
+trim_complete formula proof text more answer told sound also (files.accepted f accepts trims.no_memory) = tt
+trim_complete formula proof text more answer told sound also (files.no_formula none same) =
+    no_formula (Shortened text more) formula text answer told sound (λ line why known. known) tt none
+
 -- whatever was told
 row_complete : (asked : Asked) (all : Files) (out : Change Sink) (answer : Answer) (told : Option (List ℕ)) → RowOf (Some asked) all answer told → CompleteOf asked all out answer
 row_complete (check f p) all out answer told row = λ text more sound also quiet. check_complete all.formula all.proof_in text more answer told sound also row
 row_complete (solve f p conflicts forget) all out answer told row = λ text sound proof_quiet quiet. solve_complete conflicts all.formula all.proof_out text answer told sound proof_quiet row
 row_complete (convert f) all out answer told row = λ text sound quiet. convert_complete all.formula text answer told sound row
+row_complete (trim f p) all out answer told row = λ text more sound also quiet. trim_complete all.formula all.proof_in text more answer told sound also row
 
 -- writing did not fail
 never_cut : (asked : Asked) (all : Files) (out : Change Sink) (answer : Answer) → Rose out.old.faults out.new.faults → CompleteOf asked all out answer
 never_cut (check f p) all out answer rose = λ text more sound also quiet. absurd (no_rise _ _ quiet rose)
 never_cut (solve f p conflicts forget) all out answer rose = λ text sound proof_quiet quiet. absurd (no_rise _ _ quiet rose)
 never_cut (convert f) all out answer rose = λ text sound quiet. absurd (no_rise _ _ quiet rose)
+never_cut (trim f p) all out answer rose = λ text more sound also quiet. absurd (no_rise _ _ quiet rose)
 
 of_command : (asked : Asked) (all : Files) (out : Change Sink) (answer : Answer) → Told (RowOf (Some asked) all) out answer → CompleteOf asked all out answer
 of_command asked all out answer (outcomes.whole text row got) = row_complete asked all out answer (Some text) row

@@ -6,7 +6,7 @@ use Rattle.kn_tool.specs.declared.answer.Which.{Which}
 use Rattle.kn_tool.specs.declared.answer.Which.TheVariants.{Out}
 use Rattle.kn_tool.specs.declared.answer.Answer.{Answer}
 use Rattle.kn_tool.specs.declared.answer.Answer.TheVariants.{Refused, TooLong, ReadFault, WriteFault, NoMemory}
-use Rattle.kn_tool.specs.Words.{Asked, check, solve, convert, HasShape, AsksFor}
+use Rattle.kn_tool.specs.Words.{Asked, check, solve, convert, trim, HasShape, AsksFor}
 use Rattle.kn_tool.proofs.Shapes.{one_command}
 use Rattle.kn_tool.specs.Changes.{Change, Source, Sink}
 use Rattle.kn_tool.specs.Files as files
@@ -17,6 +17,8 @@ use Rattle.kn_tool.specs.Solves as solves
 use Rattle.kn_tool.specs.Solves.{SolveRow, SolveHeadline}
 use Rattle.kn_tool.specs.Conversions as conversions
 use Rattle.kn_tool.specs.Conversions.{ConvertRow, ConvertedRow, ConvertHeadline}
+use Rattle.kn_tool.specs.Trims as trims
+use Rattle.kn_tool.specs.Trims.{TrimRow, TrimHeadline}
 use Rattle.kn_tool.specs.Outcomes as outcomes
 use Rattle.kn_tool.specs.Outcomes.{Files, RowOf, Told, HeadlineOf}
 
@@ -59,16 +61,25 @@ convert_headline : (formula : Change Source) (out : Change Sink) (answer : Answe
 convert_headline formula out answer told got (files.accepted f accepts row) = converted_headline formula out f answer told accepts got row
 convert_headline formula out answer told got (files.no_formula none same) = no_formula (ConvertHeadline formula out) formula answer told (λ w. tt) (λ w. tt) tt (λ line why. tt) none
 
+trim_headline : (formula proof : Change Source) (out : Change Sink) (answer : Answer) (told : Option (List ℕ)) → GotText out told → TrimRow formula proof answer told → TrimHeadline formula proof out answer
+trim_headline formula proof out answer told got (files.accepted f accepts (trims.done trimmed shortens)) = (f, trimmed, accepts, shortens, got)
+trim_headline formula proof out answer told got (files.accepted f accepts (trims.not_verified fails)) = tt
+trim_headline formula proof out answer told got (files.accepted f accepts (trims.unread row)) = unread (TrimHeadline formula proof out) _ proof answer told tt tt tt row
+trim_headline formula proof out answer told got (files.accepted f accepts trims.no_memory) = tt
+trim_headline formula proof out answer told got (files.no_formula none same) = no_formula (TrimHeadline formula proof out) formula answer told (λ w. tt) (λ w. tt) tt (λ line why. tt) none
+
 row_headline : (asked : Asked) (all : Files) (out : Change Sink) (answer : Answer) (told : Option (List ℕ)) → GotText out told → RowOf (Some asked) all answer told → HeadlineOf asked all out answer
 row_headline (check f p) all out answer told got row = check_headline all.formula all.proof_in answer told row
 row_headline (solve f p conflicts forget) all out answer told got row = solve_headline conflicts all.formula all.proof_out out answer told got row
 row_headline (convert f) all out answer told got row = convert_headline all.formula out answer told got row
+row_headline (trim f p) all out answer told got row = trim_headline all.formula all.proof_in out answer told got row
 
 -- an answer that could not be written promises nothing
 cut_headline : (asked : Asked) (all : Files) (out : Change Sink) → HeadlineOf asked all out (WriteFault Out)
 cut_headline (check f p) all out = tt
 cut_headline (solve f p conflicts forget) all out = tt
 cut_headline (convert f) all out = tt
+cut_headline (trim f p) all out = tt
 
 of_command : (asked : Asked) (all : Files) (out : Change Sink) (answer : Answer) → Told (RowOf (Some asked) all) out answer → HeadlineOf asked all out answer
 of_command asked all out answer (outcomes.whole text row got) = row_headline asked all out answer (Some text) got row

@@ -20,11 +20,16 @@ use Rattle.kn_counter.specs.Counters.{counted, most_counted}
 use Rattle.kn_counter.specs.Sizes.{IfTooLarge}
 use Rattle.kn_counter.specs.declared.error.CountError.{CountError}
 use Rattle.kn_counter.specs.declared.error.CountError.TheVariants.{TooLarge}
+use Rattle.kn_trim.specs.declared.trimming.Trimmed.{Trimmed}
+use Rattle.kn_trim.specs.declared.trimming.Trimmed.TheVariants as cut
+use Rattle.kn_trim.specs.Needed.{IsTrimmed}
+use Rattle.kn_trim.specs.Trimming as trimming
 use Rattle.kn_tool.specs.declared.answer.Which.{Which}
 use Rattle.kn_tool.specs.declared.answer.Which.TheVariants.{Formula, Proof}
 use Rattle.kn_tool.specs.declared.answer.Answer.{Answer}
 use Rattle.kn_tool.specs.declared.answer.Answer.TheVariants as answer
 use Rattle.kn_tool.specs.declared.reply.Reply.{Reply}
+use Rattle.kn_tool.specs.declared.reply.Reply.TheVariants as reply
 use Rattle.kn_tool.specs.Changes.{Change, Source, GivesAll, most_bytes, source_change}
 use Rattle.kn_tool.specs.Files as files
 use Rattle.kn_tool.specs.Files.{UnreadRow, NoFormulaRow}
@@ -32,7 +37,9 @@ use Rattle.kn_tool.specs.Checks as checks
 use Rattle.kn_tool.specs.Checks.{CheckedRow}
 use Rattle.kn_tool.specs.Conversions as conversions
 use Rattle.kn_tool.specs.Conversions.{ConvertedRow}
-use Rattle.kn_tool.specs.Replies.{IsReply, IsPlain, IsShortMemory, IsRefusal, IsUnread, verdict_of}
+use Rattle.kn_tool.specs.Trims as trims
+use Rattle.kn_tool.specs.Trims.{TrimmedRow}
+use Rattle.kn_tool.specs.Replies.{IsReply, IsPlain, IsShortMemory, IsRefusal, IsUnread, IsTrimReply, verdict_of}
 use Rattle.kn_tool.proofs.Replies.{plain_reply, short_reply, wider_reply}
 
 -- a source that was not read whole
@@ -98,3 +105,24 @@ large_reply f error n r is large told =
 
 pub unconverted_reply : (f : Problem) (r : Reply) → IsShortMemory r → IsReply (ConvertedRow f) r
 unconverted_reply f r is = short_reply (ConvertedRow f) r conversions.no_memory is
+
+-- a proof that was trimmed, or was not
+pub untrimmed_proof : (proof : Change Source) (f : Problem) (r : Reply) → IsReply (UnreadRow Proof proof) r → IsReply (TrimmedRow proof f) r
+untrimmed_proof proof f r is = wider_reply (UnreadRow Proof proof) (TrimmedRow proof f) r (λ answer told row. trims.unread row) is
+
+pub untrimmed_reply : (proof : Change Source) (f : Problem) (r : Reply) → IsShortMemory r → IsReply (TrimmedRow proof f) r
+untrimmed_reply proof f r is = short_reply (TrimmedRow proof f) r trims.no_memory is
+
+pub trimmed_reply : (proof : Change Source) (f : Problem) (text read : List ℕ) (found : Trimmed) (r : Reply) → GivesAll proof text → read ≡ text
+    → trimming.IfText found (IsTrimmed f read) → trimming.IfText found (λ _. IsProof f read) → trimming.IfText found (IsProof f)
+    → trimming.IfFault found (IsFirstWrong f read) → trimming.IfFault found (λ _. IsProof f read → ⊥) → IsTrimReply found r → IsReply (TrimmedRow proof f) r
+trimmed_reply proof f text read (cut.Text bytes) (reply.Text given told) whole same cuts accepted again wrong none is =
+    subst (λ a. TrimmedRow proof f a (Some told.items)) (sym is.0)
+    (subst (λ t. TrimmedRow proof f answer.Done (Some t)) (sym is.1)
+    (trims.done bytes (record { text = text; whole = whole; accepted = subst (IsProof f) same accepted; trims = subst (λ t. IsTrimmed f t bytes) same cuts; again = again })))
+trimmed_reply proof f text read (cut.Text bytes) reply.Usage whole same cuts accepted again wrong none is = absurd is
+trimmed_reply proof f text read (cut.Text bytes) (reply.Silent given) whole same cuts accepted again wrong none is = absurd is
+trimmed_reply proof f text read (cut.NotVerified line why) r whole same cuts accepted again wrong none is =
+    plain_reply (TrimmedRow proof f) _ r
+    (trims.not_verified {line = line} {why = why} (record { text = text; whole = whole; wrong = subst (λ t. IsFirstWrong f t (fault line why)) same wrong; none = subst (λ t. IsProof f t → ⊥) same none }))
+    trims.no_memory is

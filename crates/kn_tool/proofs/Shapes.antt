@@ -3,7 +3,7 @@ use Rattle.std.proofs.Common.{◌≡◌, ℕ, List, [], ◌∷◌, Option, Some,
 use Rattle.std.specs.Prelude.{if◌then◌else◌, option_map, codes}
 use Rattle.std.specs.Str.{bytes_eq}
 use Rattle.kn_tool.specs.declared.command.Command.{Command}
-use Rattle.kn_tool.specs.Words.{Asked, check, solve, convert, AsksCheck, AsksSolve, AsksConvert, HasShape, HasNoShape, AsksFor, Named, names_of, asked_by, SpellsOptions, SpellsOption, SpellsBoth, SpellsConflicts, SpellsForget, count_of, default_conflicts, default_forget}
+use Rattle.kn_tool.specs.Words.{Asked, check, solve, convert, trim, AsksCheck, AsksSolve, AsksConvert, AsksTrim, HasShape, HasNoShape, AsksFor, Named, names_of, asked_by, SpellsOptions, SpellsOption, SpellsBoth, SpellsConflicts, SpellsForget, count_of, default_conflicts, default_forget}
 
 -- a budget, and how many clauses are kept
 record Limit : Type 0 where
@@ -62,11 +62,16 @@ abbrev convert_in : List (List ℕ) → Option Asked
 convert_in (f ∷ []) = Some (convert f)
 convert_in words = None
 
+abbrev trim_in : List (List ℕ) → Option Asked
+trim_in (f ∷ p ∷ []) = Some (trim f p)
+trim_in words = None
+
 abbrev behind : List ℕ → List (List ℕ) → Option Asked
 behind name words =
     if bytes_eq name (codes "check") then check_in words
     else if bytes_eq name (codes "solve") then solve_in words
     else if bytes_eq name (codes "convert") then convert_in words
+    else if bytes_eq name (codes "trim") then trim_in words
     else None
 
 abbrev asked_in : List (List ℕ) → Option Asked
@@ -94,10 +99,18 @@ convert_found (a ∷ []) f is = absurd is
 convert_found (a ∷ b ∷ []) f is = rw (is.0, is.1) refl
 convert_found (a ∷ b ∷ c ∷ more) f is = absurd is
 
+trim_found : (words : List (List ℕ)) (f p : List ℕ) → AsksTrim words f p → asked_in words ≡ Some (trim f p)
+trim_found [] f p is = absurd is
+trim_found (a ∷ []) f p is = absurd is
+trim_found (a ∷ b ∷ []) f p is = absurd is
+trim_found (a ∷ b ∷ c ∷ []) f p is = rw (is.0, is.1, is.2) refl
+trim_found (a ∷ b ∷ c ∷ d ∷ more) f p is = absurd is
+
 found : (words : List (List ℕ)) (asked : Asked) → HasShape words asked → asked_in words ≡ Some asked
 found words (check f p) is = check_found words f p is
 found words (solve f p conflicts forget) is = solve_found words f p conflicts forget is
 found words (convert f) is = convert_found words f is
+found words (trim f p) is = trim_found words f p is
 
 same_some : (a b : Asked) → ◌≡◌ {A = Option Asked} (Some a) (Some b) → a ≡ b
 same_some a b is = cc

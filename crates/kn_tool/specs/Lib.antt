@@ -5,5 +5,6 @@ pub mod Files
 pub mod Checks
 pub mod Solves
 pub mod Conversions
+pub mod Trims
 pub mod Outcomes
 pub mod Replies

@@ -4,13 +4,14 @@ use Rattle.kn_bytes.specs.Outside.{Rose, Got, GotPrefix}
 use Rattle.kn_tool.specs.declared.answer.Which.TheVariants.{Out}
 use Rattle.kn_tool.specs.declared.answer.Answer.{Answer}
 use Rattle.kn_tool.specs.declared.answer.Answer.TheVariants.{Usage, WriteFault}
-use Rattle.kn_tool.specs.Words.{Asked, check, solve, convert, AsksFor}
+use Rattle.kn_tool.specs.Words.{Asked, check, solve, convert, trim, AsksFor}
 use Rattle.kn_tool.specs.Answers.{usage_text}
 use Rattle.kn_tool.specs.Changes.{Change, Source, Sink, IsSound, IsQuiet}
 use Rattle.kn_tool.specs.Files.{Rows}
 use Rattle.kn_tool.specs.Checks.{CheckRow, CheckHeadline, Decides}
 use Rattle.kn_tool.specs.Solves.{SolveRow, SolveHeadline, Concludes}
 use Rattle.kn_tool.specs.Conversions.{ConvertRow, ConvertHeadline, Converts}
+use Rattle.kn_tool.specs.Trims.{TrimRow, TrimHeadline, Shortened}
 
 -- The objects of a run but the sink of the answers. Each command speaks of those that it uses.
 pub record Files : Type 0 where
@@ -27,6 +28,7 @@ RowOf None files answer told = (answer ≡ Usage) × (told ≡ Some usage_text)
 RowOf (Some (check formula proof)) files answer told = CheckRow files.formula files.proof_in answer told
 RowOf (Some (solve formula proof conflicts forget)) files answer told = SolveRow conflicts files.formula files.proof_out answer told
 RowOf (Some (convert formula)) files answer told = ConvertRow files.formula answer told
+RowOf (Some (trim formula proof)) files answer told = TrimRow files.formula files.proof_in answer told
 
 -- What stands on the sink of the answers: the text of the answer; nothing, where it has none; where writing
 -- failed, a prefix of the text of an answer that would have been right.
@@ -45,6 +47,7 @@ abbrev pub HeadlineOf : Asked → Files → Change Sink → Answer → Type 0
 HeadlineOf (check formula proof) files out answer = CheckHeadline files.formula files.proof_in answer
 HeadlineOf (solve formula proof conflicts forget) files out answer = SolveHeadline conflicts files.formula files.proof_out out answer
 HeadlineOf (convert formula) files out answer = ConvertHeadline files.formula out answer
+HeadlineOf (trim formula proof) files out answer = TrimHeadline files.formula files.proof_in out answer
 
 -- What is answered where nothing is in the way: no call on an object that the command uses fails, and its sources tell
 -- what they have.
@@ -55,6 +58,8 @@ CompleteOf (solve formula proof conflicts forget) files out answer =
     (text : List ℕ) → IsSound files.formula text → IsQuiet files.proof_out → IsQuiet out → Concludes text answer
 CompleteOf (convert formula) files out answer =
     (text : List ℕ) → IsSound files.formula text → IsQuiet out → Converts text answer
+CompleteOf (trim formula proof) files out answer =
+    (text : List ℕ) (more : List ℕ) → IsSound files.formula text → IsSound files.proof_in more → IsQuiet out → Shortened text more answer
 
 -- the answers to words that ask for no command
 abbrev pub AnswersUsage : Answer → Type 0

@@ -12,10 +12,12 @@ use Rattle.kn_rules.specs.declared.whole.Checked.TheVariants as checked
 use Rattle.kn_log.specs.Written.{learned_count}
 use Rattle.kn_search.specs.declared.outcome.Outcome.{Outcome}
 use Rattle.kn_search.specs.declared.outcome.Outcome.TheVariants as outcome
+use Rattle.kn_trim.specs.declared.trimming.Trimmed.{Trimmed}
+use Rattle.kn_trim.specs.declared.trimming.Trimmed.TheVariants as trimmed
 use Rattle.kn_tool.specs.declared.answer.Which.{Which}
 use Rattle.kn_tool.specs.declared.answer.Which.TheVariants.{Out}
 use Rattle.kn_tool.specs.declared.answer.Answer.{Answer}
-use Rattle.kn_tool.specs.declared.answer.Answer.TheVariants.{Model, Refuted, Unknown, Verified, NotVerified, Refused, TooLong, Usage, ReadFault, WriteFault, NoMemory}
+use Rattle.kn_tool.specs.declared.answer.Answer.TheVariants.{Model, Refuted, Unknown, Done, Verified, NotVerified, Refused, TooLong, Usage, ReadFault, WriteFault, NoMemory}
 use Rattle.kn_tool.specs.declared.reply.Reply.{Reply}
 use Rattle.kn_tool.specs.declared.reply.Reply.TheVariants as reply
 use Rattle.kn_tool.specs.Answers.{answer_text, usage_text}
@@ -53,6 +55,12 @@ IsRefusal faults.Memory r = IsShortMemory r
 abbrev pub verdict_of : Checked → Answer
 verdict_of checked.Verified = Verified
 verdict_of (checked.NotVerified line why) = NotVerified line why
+
+-- the reply to a proof that was trimmed
+abbrev pub IsTrimReply : Trimmed → Reply → Type 0
+IsTrimReply (trimmed.Text text) (reply.Text answer told) = (answer ≡ Done) × (told.items ≡ text)
+IsTrimReply (trimmed.Text text) other = ⊥
+IsTrimReply (trimmed.NotVerified line why) r = IsPlain (NotVerified line why) r
 
 -- The text was appended; or writing it failed.
 abbrev pub Sent : Answer → List ℕ → Change Sink → Answer → Type 0

@@ -12,6 +12,7 @@ pub data Asked : Type 0 where
   check : List ℕ → List ℕ → Asked
   solve : List ℕ → List ℕ → ℕ → ℕ → Asked
   convert : List ℕ → Asked
+  trim : List ℕ → List ℕ → Asked
 
 -- a word that may name a file
 abbrev pub IsName : List ℕ → Type 0
@@ -70,10 +71,17 @@ abbrev pub AsksConvert : List (List ℕ) → List ℕ → Type 0
 AsksConvert (name ∷ f ∷ []) formula = (name ≡ codes "convert") × (f ≡ formula) × IsName formula
 AsksConvert words formula = ⊥
 
+-- `trim F P`
+abbrev pub AsksTrim : List (List ℕ) → List ℕ → List ℕ → Type 0
+AsksTrim (name ∷ f ∷ p ∷ []) formula proof =
+    (name ≡ codes "trim") × (f ≡ formula) × (p ≡ proof) × IsName formula × IsName proof
+AsksTrim words formula proof = ⊥
+
 abbrev pub HasShape : List (List ℕ) → Asked → Type 0
 HasShape words (check formula proof) = AsksCheck words formula proof
 HasShape words (solve formula proof conflicts forget) = AsksSolve words formula proof conflicts forget
 HasShape words (convert formula) = AsksConvert words formula
+HasShape words (trim formula proof) = AsksTrim words formula proof
 
 -- The words ask for no command.
 abbrev pub HasNoShape : List (List ℕ) → Type 0
@@ -92,6 +100,7 @@ abbrev pub asked_by : Command → Asked
 asked_by (command.Check formula proof) = check formula.now proof.now
 asked_by (command.Solve formula proof conflicts forget) = solve formula.now proof.now conflicts forget
 asked_by (command.Convert formula) = convert formula.now
+asked_by (command.Trim formula proof) = trim formula.now proof.now
 
 -- the names of the files that a command opens; none where it does not use such a file
 pub record Named : Type 0 where
@@ -103,6 +112,7 @@ abbrev pub named_by : Asked → Named
 named_by (check formula proof) = record { formula = Some formula; proof_in = Some proof; proof_out = None }
 named_by (solve formula proof conflicts forget) = record { formula = Some formula; proof_in = None; proof_out = Some proof }
 named_by (convert formula) = record { formula = Some formula; proof_in = None; proof_out = None }
+named_by (trim formula proof) = record { formula = Some formula; proof_in = Some proof; proof_out = None }
 
 abbrev pub no_names : Named
 no_names = record { formula = None; proof_in = None; proof_out = None }

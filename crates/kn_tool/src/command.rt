@@ -1,5 +1,5 @@
 ghost use Rattle.std.specs.Prelude.{◌≡◌, ◌↔◌, ℕ, List, IfSome, IfNone, IsTrue, codes, option_map};
-ghost use Rattle.kn_tool.specs.Words.{AsksCheck, AsksSolve, AsksConvert, HasShape, AsksFor, SpellsOption, SpellsBoth, SpellsOptions, count_of, texts, asked_by};
+ghost use Rattle.kn_tool.specs.Words.{AsksCheck, AsksSolve, AsksConvert, AsksTrim, HasShape, AsksFor, SpellsOption, SpellsBoth, SpellsOptions, count_of, texts, asked_by};
 
 use kn_text::number;
 
@@ -22,6 +22,11 @@ pub enum Command<'a> {
     /// Turn a formula into clauses: the name of its file.
     Convert {
         formula: &'a [u8],
+    },
+    /// Cut a proof for a formula down to the lines that it needs: the names of the two files.
+    Trim {
+        formula: &'a [u8],
+        proof: &'a [u8],
     },
 }
 
@@ -47,7 +52,10 @@ pub fn parse<'a>(words: &'a [Vec<u8>]) -> Option<Command<'a>>
     if let Some(command) = solve_command(words) {
         return Some(command);
     }
-    convert_command(words)
+    if let Some(command) = convert_command(words) {
+        return Some(command);
+    }
+    trim_command(words)
 }
 
 fn check_command<'a>(words: &'a [Vec<u8>]) -> Option<Command<'a>>
@@ -96,6 +104,21 @@ fn convert_command<'a>(words: &'a [Vec<u8>]) -> Option<Command<'a>>
     }
 }
 
+fn trim_command<'a>(words: &'a [Vec<u8>]) -> Option<Command<'a>>
+    ensures some { IfSome result (λ c. HasShape (texts words.now) (asked_by c)) }
+    ensures none { IfNone result ((formula : List ℕ) (proof : List ℕ) → AsksTrim (texts words.now) formula proof → ⊥) }
+{
+    match words {
+        [name, formula, proof] if is_trim(name) && !formula.is_empty() && !proof.is_empty() => {
+            Some(Command::Trim {
+                formula: formula.as_slice(),
+                proof: proof.as_slice(),
+            })
+        }
+        _ => None,
+    }
+}
+
 fn is_check(word: &[u8]) -> bool
     ensures { IsTrue result ↔ (word.now ≡ codes "check") }
 {
@@ -112,6 +135,12 @@ fn is_convert(word: &[u8]) -> bool
     ensures { IsTrue result ↔ (word.now ≡ codes "convert") }
 {
     word == b"convert".as_slice()
+}
+
+fn is_trim(word: &[u8]) -> bool
+    ensures { IsTrue result ↔ (word.now ≡ codes "trim") }
+{
+    word == b"trim".as_slice()
 }
 
 /// The limits that the options set; each stands there once at most, in either order.

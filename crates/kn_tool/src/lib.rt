@@ -16,6 +16,7 @@ mod naming;
 mod reply;
 mod solving;
 mod top;
+mod trimming;
 
 pub use answer::{Answer, Which};
 pub use command::{Command, Names, parse};

@@ -24,6 +24,11 @@ pub fn names<'a>(words: &'a [Vec<u8>]) -> Names<'a>
             proof_in: None,
             proof_out: None,
         },
+        Some(Command::Trim { formula, proof }) => Names {
+            formula: Some(formula),
+            proof_in: Some(proof),
+            proof_out: None,
+        },
         None => Names {
             formula: None,
             proof_in: None,

@@ -205,8 +205,43 @@ fn a_proof_that_is_cut_is_wrong_where_it_ends(rt: HostRuntime) -> Result<(), Fai
 }
 
 #[test]
+fn trim_keeps_what_the_refutation_needs(rt: HostRuntime) -> Result<(), Fail> {
+    let trimmed = "p kpf 3 2\nr 1 0 1 2 0\nr 2 0 1 2 0\nr 0 3 4 2 0\n";
+    let cases = [
+        (
+            "p kpf 3 2\nr 1 0 1 2 0\nr 3 0 1 2 0\nr 2 0 1 2 0\nr 0 3 5 2 0\n",
+            trimmed,
+            0,
+        ),
+        (
+            "p kpf 3 2\nd 3 T F\nr 1 0 1 2 0\nr 2 0 1 2 0\nx 3 0\nr 0 7 8 2 0\n",
+            trimmed,
+            0,
+        ),
+        (trimmed, trimmed, 0),
+        (
+            "p kpf 3 2\nr 1 0 1 2 0\nr 2 0 1 2 0\nx 1 0\nr 0 3 4 1 0\n",
+            "c line 5 cause 4\ns NOT VERIFIED\n",
+            30,
+        ),
+    ];
+    for (proof, want, status) in cases {
+        let seen = run_on(
+            rt.alloc(),
+            &["trim", "F", "P"],
+            source(rt.alloc(), TWO_OF_THREE, false)?,
+            source(rt.alloc(), proof, false)?,
+        )?;
+        assert_eq!(rt; seen.answer.status(), status, "{}", proof);
+        assert_eq!(rt; seen.text.as_slice(), want.as_bytes(), "{}", proof);
+        assert!(rt; seen.proof.is_empty());
+    }
+    Ok(())
+}
+
+#[test]
 fn other_words_have_the_usage_line(rt: HostRuntime) -> Result<(), Fail> {
-    let cases: [&[&str]; 18] = [
+    let cases: [&[&str]; 19] = [
         &[],
         &["check", "F"],
         &["check", "F", "P", "X"],
@@ -224,6 +259,7 @@ fn other_words_have_the_usage_line(rt: HostRuntime) -> Result<(), Fail> {
         &["convert"],
         &["convert", ""],
         &["convert", "F", "P"],
+        &["trim", "F"],
         &["extract", "F"],
     ];
     for words in cases {

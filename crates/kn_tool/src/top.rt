@@ -9,6 +9,7 @@ use crate::checking::check_files;
 use crate::converting::convert_file;
 use crate::reply::Reply;
 use crate::solving::solve_file;
+use crate::trimming::trim_files;
 use crate::{Answer, Command, Which, parse};
 use kn_bytes::{Sink, Source, write_all};
 use kn_search::Options;
@@ -85,6 +86,7 @@ fn carry_out<F: Source, Q: Source, P: Sink>(
             },
         ) => solve_file(alloc, formula, proof_out, Options { conflicts, forget }),
         Some(Command::Convert { .. }) => convert_file(alloc, formula),
+        Some(Command::Trim { .. }) => trim_files(alloc, formula, proof_in),
         None => Reply::Usage,
     }
 }

@@ -25,6 +25,13 @@ impl TrimText {
         TrimText { bytes }
     }
 
+    /// The bytes, given back.
+    pub fn into_bytes(self) -> Vec<u8>
+        ensures { result.items ≡ self }
+    {
+        self.bytes
+    }
+
     /// The bytes of the text.
     pub fn bytes(&self) -> &[u8]
         ensures { result.now ≡ self.now }

@@ -1,0 +1,9 @@
+use Rattle.std.proofs.Common.{refl}
+use Rattle.kn_tool.proofs.Replies.{accepted_reply, no_formula_reply}
+use Rattle.kn_tool.proofs.trimming.trim_files.Goals as goal
+
+pub returns-in-Ok-clause-reply : goal.returns-in-Ok-clause-reply
+returns-in-Ok-clause-reply g c = accepted_reply _ _ _ _ _ c.in-Ok.ensures.ok c.trim_proof.ensures.reply
+
+pub returns-in-Err-clause-reply : goal.returns-in-Err-clause-reply
+returns-in-Err-clause-reply g c = no_formula_reply _ _ _ _ refl c.in-Err.ensures.err
