@@ -1,0 +1,10 @@
+use Rattle.std.proofs.Common.{◌≡◌}
+use Rattle.kn_propagate.proofs.TrailKeeps.{rising-raise}
+use Rattle.kn_propagate.proofs.trail.Trail.raise.Goals as goal
+
+pub invariant_of-self : goal.invariant_of-self
+invariant_of-self c = (record {
+  known = c.self.invariant.0.known;
+  different = c.self.invariant.0.different;
+  rising = rising-raise c.self.inside.level c.self.inside.made.items c.self.invariant.0.rising;
+}, c.self.invariant.1)
