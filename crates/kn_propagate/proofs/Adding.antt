@@ -5,10 +5,10 @@ use Rattle.std.proofs.lemmas.Bool.{or_cases, or_left, or_right, eqb-true, eqb-fa
 use Rattle.std.proofs.lemmas.List.{get_or_append_left, get_or_push}
 use Rattle.kn_logic.specs.Constraints.{Bounded}
 use Rattle.kn_logic.specs.Literals.{Literal}
-use Rattle.kn_propagate.specs.declared.engine.Spot.{Spot}
+use Rattle.kn_propagate.specs.declared.chains.Spot.{Spot}
 use Rattle.kn_propagate.specs.Watches.{listed, lit_at}
-use Rattle.kn_propagate.specs.Engines.{Watching, at_slot, lit_of_spot, is_in, code, with_chain, spot_at, AreLinked}
-use Rattle.kn_propagate.proofs.Walking.{a_spot}
+use Rattle.kn_propagate.specs.Chains.{Watching, at_slot, lit_of_spot, is_in, code, with_chain, spot_at, AreLinked}
+use Rattle.kn_propagate.proofs.Relinking.{a_spot}
 
 -- the same constraints, of which one watches one place more
 pub record Gains (ws new : List Watching) (s : Spot) : Type 0 where

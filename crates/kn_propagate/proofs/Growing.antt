@@ -9,13 +9,13 @@ use Rattle.kn_logic.specs.Constraints.{Bounded}
 use Rattle.kn_logic.specs.Literals.{Literal, negated, is_same, has}
 use Rattle.kn_logic.specs.Propagation.{is_open, IsConsistent}
 use Rattle.kn_propagate.specs.declared.trail.Made.{Made}
-use Rattle.kn_propagate.specs.declared.engine.Spot.{Spot}
+use Rattle.kn_propagate.specs.declared.chains.Spot.{Spot}
 use Rattle.kn_propagate.specs.Trails.{Trailed, literals, below, IsRising, IsTrail}
 use Rattle.kn_propagate.specs.Watches.{listed, lit_at, NoneFalse, IsSatisfied, IsSettled}
-use Rattle.kn_propagate.specs.Engines.{Watching, at_slot, lit_of_spot, is_in, code, spot_at, IsWalked, IsAtRest, Grows, Goes, IsGrown}
+use Rattle.kn_propagate.specs.Chains.{Watching, at_slot, lit_of_spot, is_in, code, spot_at, IsWalked, IsAtRest, Grows, Goes, IsGrown}
 use Rattle.kn_propagate.proofs.Within.{Within, within-same, none_false_within, satisfied_within, open_within, same_literal}
 use Rattle.kn_propagate.proofs.Settled.{below_within, below_all}
-use Rattle.kn_propagate.proofs.Walking.{a_spot, spot_other, not_in}
+use Rattle.kn_propagate.proofs.Relinking.{a_spot, spot_other, not_in}
 
 -- none of the literals stands above this level
 abbrev pub IsTop : ℕ → List Made → Type 0

@@ -1,8 +1,9 @@
 pub mod Within
 pub mod Settled
 pub mod TrailKeeps
-pub mod Chains
-pub mod Walking
+pub mod Entries
+pub mod Laying
+pub mod Relinking
 pub mod Growing
 pub mod Turning
 pub mod Steps
@@ -12,7 +13,4 @@ pub mod Lifting
 pub mod Starting
 pub mod Looks
 pub mod Adding
-pub mod Engined
-pub mod Empty
-pub mod Back
 pub mod Cutting

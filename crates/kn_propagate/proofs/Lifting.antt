@@ -6,9 +6,9 @@ use Rattle.std.proofs.lemmas.List.{get_or-set_same, get_or-set_other}
 use Rattle.std.proofs.Math.ListN.{length-set}
 use Rattle.kn_logic.specs.Literals.{Literal}
 use Rattle.kn_propagate.specs.declared.trail.Made.{Made}
-use Rattle.kn_propagate.specs.declared.engine.Spot.{Spot}
+use Rattle.kn_propagate.specs.declared.chains.Spot.{Spot}
 use Rattle.kn_propagate.specs.Watches.{listed, lit_at, IsSettled, NoneFalse}
-use Rattle.kn_propagate.specs.Engines.{Watching, at_slot, lit_of_spot, is_in, code, spot_at, with_chain, IsChain, AreChains, AreLinked, IsWalked, IsAtRest, hand_of, IsWired, IsWalking, IsStopped, IsIdle}
+use Rattle.kn_propagate.specs.Chains.{Watching, at_slot, lit_of_spot, is_in, code, spot_at, with_chain, IsChain, AreChains, AreLinked, IsWalked, IsAtRest, hand_of, IsWired, IsWalking, IsStopped, IsIdle}
 use Rattle.kn_propagate.proofs.Steps.{chain_none}
 
 -- the chains, with one of them in the hand

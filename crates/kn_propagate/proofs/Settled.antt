@@ -8,7 +8,7 @@ use Rattle.kn_logic.specs.Propagation.{is_open, IsShort, IsConsistent}
 use Rattle.kn_propagate.specs.declared.trail.Made.{Made}
 use Rattle.kn_propagate.specs.Trails.{literals, below}
 use Rattle.kn_propagate.specs.Watches.{IsSatisfied, NoneFalse, IsSettled, HasWatches, IsBroad, QuietLaw}
-use Rattle.kn_propagate.specs.Engines.{Watching, IsAtRest}
+use Rattle.kn_propagate.specs.Chains.{Watching, IsAtRest}
 use Rattle.kn_propagate.specs.Quiet.{quiet_law}
 use Rattle.kn_propagate.proofs.Within.{Within, satisfied_within, none_false_within, satisfied_quiet}
 

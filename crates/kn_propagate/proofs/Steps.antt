@@ -8,13 +8,13 @@ use Rattle.kn_logic.specs.Constraints.{Bounded}
 use Rattle.kn_logic.specs.Literals.{Literal, negated, has, is_same}
 use Rattle.kn_logic.specs.Propagation.{is_open}
 use Rattle.kn_propagate.specs.declared.trail.Made.{Made}
-use Rattle.kn_propagate.specs.declared.engine.Spot.{Spot}
+use Rattle.kn_propagate.specs.declared.chains.Spot.{Spot}
 use Rattle.kn_propagate.specs.Trails.{literals, below, lit_of}
 use Rattle.kn_propagate.specs.Watches.{listed, lit_at, NoneFalse, IsSatisfied, IsSettled}
-use Rattle.kn_propagate.specs.Engines.{Watching, at_slot, lit_of_spot, is_in, code, spot_at, with_chain, with_home, IsChain, AreChains, AreLinked, IsWalked, IsAtRest, Grows, Goes, IsDrawn, hand_of, IsWired, IsWalking, IsStopped, count_from}
+use Rattle.kn_propagate.specs.Chains.{Watching, at_slot, lit_of_spot, is_in, code, spot_at, with_chain, with_home, IsChain, AreChains, AreLinked, IsWalked, IsAtRest, Grows, Goes, IsDrawn, hand_of, IsWired, IsWalking, IsStopped, count_from}
 use Rattle.kn_propagate.proofs.Within.{Within}
-use Rattle.kn_propagate.proofs.Chains.{first_once, lay, draw, drawn_loose, count_is, chain_short}
-use Rattle.kn_propagate.proofs.Walking.{relaid, linked_stays, linked_moves}
+use Rattle.kn_propagate.proofs.Laying.{first_once, lay, draw, drawn_loose, count_is, chain_short}
+use Rattle.kn_propagate.proofs.Relinking.{relaid, linked_stays, linked_moves}
 use Rattle.kn_propagate.proofs.Growing.{code_one, negated_twice, IsTop, settled_grows, walked_satisfied, walked_other, walked_moved, walked_moved_other, walked_all}
 
 chain_first : (nexts : List ℕ) (head e : ℕ) (xs : List ℕ) → IsChain nexts head xs → head ≡ e + 1 → (rest : List ℕ) × (xs ≡ e ∷ rest)
@@ -180,14 +180,14 @@ numbered ws spots nexts heads new from chain home e w d =
     let l = left ws spots nexts heads new from chain home e w d in
     w.linked.numbered (hand_of heads) e (omega (arith, w.some)) (mine chain (hand_of heads) e l.0 l.1)
 
-pub entry_is : (ws : List Watching) (spots : List Spot) (nexts heads new : List ℕ) (from : ℕ) (chain : ℕ → List ℕ) (home : ℕ → ℕ) (e : ℕ) (s : Spot) → IsWired ws spots nexts heads from chain home → IsDrawn nexts heads new (hand_of heads) (Some e) → s ≡ slice_index_or spots e s → IsEntry ws spots nexts from e s
+pub entry_is : (ws : List Watching) (spots : List Spot) (nexts heads new : List ℕ) (from : ℕ) (chain : ℕ → List ℕ) (home : ℕ → ℕ) (e : ℕ) (s : Spot) → IsWired ws spots nexts heads from chain home → IsDrawn nexts heads new (hand_of heads) (Some e) → s ≡ spot_at spots e → IsEntry ws spots nexts from e s
 entry_is ws spots nexts heads new from chain home e s w d r =
     let hand = hand_of heads in
     let hl : hand < length heads = omega (arith, w.some) in
     let l = left ws spots nexts heads new from chain home e w d in
     let i = mine chain hand e l.0 l.1 in
     let lt = w.linked.numbered hand e hl i in
-    let here : spot_at spots e ≡ s = sym (get_or_read spots e s lt r (record { owner = 0; place = 0 })) in
+    let here : spot_at spots e ≡ s = sym r in
     record {
       here = here;
       inside = omega (arith, lt, w.long);

@@ -9,12 +9,12 @@ use Rattle.kn_logic.specs.Constraints.{Bounded, IsWithin}
 use Rattle.kn_logic.specs.Literals.{Literal, negated, is_same, has, IsKnown, AreKnown}
 use Rattle.kn_logic.specs.Propagation.{is_open}
 use Rattle.kn_propagate.specs.declared.trail.Made.{Made}
-use Rattle.kn_propagate.specs.declared.engine.Spot.{Spot}
+use Rattle.kn_propagate.specs.declared.chains.Spot.{Spot}
 use Rattle.kn_propagate.specs.Trails.{Trailed, literals, below, lit_of, IsRising, IsTrail}
 use Rattle.kn_propagate.specs.Watches.{listed, unguarded, lit_at, NoneFalse, IsSatisfied, IsSettled}
-use Rattle.kn_propagate.specs.Engines.{Watching, at_slot, lit_of_spot, code, spot_at, Grows, Goes, IsDrawn, hand_of, IsWired, IsWalking, IsStopped, IsGrown, IsFresh, AreSame, IsIdle, with_home, count_from}
+use Rattle.kn_propagate.specs.Chains.{Watching, at_slot, lit_of_spot, code, spot_at, Grows, Goes, IsDrawn, hand_of, IsWired, IsWalking, IsStopped, IsGrown, IsFresh, AreSame, IsIdle, with_home, count_from}
 use Rattle.kn_propagate.proofs.Within.{Within}
-use Rattle.kn_propagate.proofs.Walking.{a_spot, relaid}
+use Rattle.kn_propagate.proofs.Relinking.{a_spot, relaid}
 use Rattle.kn_propagate.proofs.Growing.{IsTop, rising_top, below_grown, all_within_grown, append_assoc_made, code_one}
 use Rattle.kn_propagate.proofs.Steps.{IsEntry, step_stays, step_moves, step_stops, step_less, left, wired_stays}
 use Rattle.kn_propagate.proofs.TrailKeeps.{at-most}
@@ -122,7 +122,7 @@ pub long_kept : (nexts heads heads1 heads2 : List ℕ) (k e n : ℕ) → length 
 long_kept nexts heads heads1 heads2 k e n q d c = ap (λ (xs : List ℕ). length xs) c ∙ length-set heads1 k (e + 1) ∙ ap (λ (xs : List ℕ). length xs) d.1 ∙ length-set heads (hand_of heads) (slice_index_or nexts e 0) ∙ q
 
 pub same_trans : (a b c : List Watching) → AreSame a b → AreSame b c → AreSame a c
-same_trans a b c s t = record { long = t.long ∙ s.long; same = λ slot. t.same slot ∙ s.same slot }
+same_trans a b c s t = record { long = t.long ∙ s.long; same = λ slot. t.same slot ∙ s.same slot; ids = λ slot. t.ids slot ∙ s.ids slot }
 
 at_known : (vars : ℕ) (lits : List Literal) (place : ℕ) → AreKnown vars lits → place < length lits → IsKnown vars (lit_at lits place)
 at_known vars [] place k lt = absurd (omega (arith, lt))

@@ -1,179 +1,71 @@
--- The engine's own definitions: constraints as they are watched, the chains of their entries, and what keeps
--- each constraint quiet while literals are visited.
-use Rattle.std.specs.Prelude.{ℕ, zero, suc, ◌≡◌, ◌≢◌, ◌≤◌, ◌<◌, ◌+◌, ◌*◌, ◌-◌, ◌⊎◌, ◌++◌, ◌∷◌, ◌==◌, Bool, true, false, if◌then◌else◌, List, [], length, map, take, slice_index_or, slice_set, Option, Some, None}
-use Rattle.std.specs.List.{list_any, AllByRecursion}
-use Rattle.kn_logic.specs.Literals.{Literal, negated, has}
-use Rattle.kn_logic.specs.Constraints.{Bounded, IsWithin, clause}
-use Rattle.kn_logic.specs.Propagation.{is_open}
+-- An engine as its callers see it, and what its type keeps.
+use Rattle.std.specs.Prelude.{ℕ, ◌≡◌, ◌≤◌, ◌<◌, ◌+◌, ◌-◌, ◌==◌, if◌then◌else◌, List, [], ◌∷◌, length, map, take, slice_get, Option, Some, None}
+use Rattle.std.specs.List.{AllByRecursion}
+use Rattle.kn_logic.specs.Literals.{AreKnown, AreDifferent}
+use Rattle.kn_logic.specs.Constraints.{Bounded, IsWithin}
+use Rattle.kn_logic.specs.Propagation.{IsClosed, after_hint, Forces}
 use Rattle.kn_propagate.specs.declared.trail.Made.{Made}
-use Rattle.kn_propagate.specs.declared.engine.Spot.{Spot}
-use Rattle.kn_propagate.specs.declared.watched.Visit.{Visit}
-use Rattle.kn_propagate.specs.declared.watched.Visit.TheVariants as turned
-use Rattle.kn_propagate.specs.declared.engine.Effect.{Effect}
-use Rattle.kn_propagate.specs.declared.engine.Effect.TheVariants.{Stays, Moved, Conflict}
-use Rattle.kn_propagate.specs.Trails.{Trailed, literals, below, IsTrail}
-use Rattle.kn_propagate.specs.Watches.{listed, lit_at, NoneFalse, IsSettled, IsSatisfied, IsConflicting, IsForced, IsForcing, HasWatches, IsBroad, QuietLaw, IsMoved}
+use Rattle.kn_propagate.specs.declared.step.Step.{Step}
+use Rattle.kn_propagate.specs.declared.step.Step.TheVariants.{Closed, Conflict}
+use Rattle.kn_propagate.specs.Trails.{Trailed, literals, below, IsRising}
 
--- a constraint as it is watched
-pub record Watching : Type 0 where
-  pub c : Bounded
-  pub watches : ℕ → Bool
+-- a live constraint
+pub record Live : Type 0 where
+  pub id : ℕ
+  pub constraint : Bounded
 
-abbrev pub seen_as : {W : Type 0} → (W → Bounded) → (W → ℕ → Bool) → List W → List Watching
-seen_as bounded watches ws = map (λ w. record { c = bounded w; watches = watches w }) ws
+pub record Engined : Type 0 where
+  pub trail : Trailed
+  pub live : List Live
+  -- how the last propagation ended, as long as nothing that was done since made that untrue
+  pub last : Option Step
 
-abbrev pub at_slot : List Watching → ℕ → Watching
-at_slot ws slot = slice_index_or ws slot (record { c = clause []; watches = λ place. false })
+abbrev pub constraints : List Live → List Bounded
+constraints live = map (λ l. l.constraint) live
 
--- the literal at a place of a slot
-abbrev pub lit_of_spot : List Watching → Spot → Literal
-lit_of_spot ws s = lit_at (listed (at_slot ws s.owner).c) s.place
+-- the live constraint of an id
+abbrev pub live_in : List Live → ℕ → Option Bounded
+live_in [] id = None
+live_in (l ∷ live) id = if l.id == id then Some l.constraint else live_in live id
 
--- What keeps a constraint quiet: it is settled, or none of the literals that were visited is watched.
-abbrev pub IsAtRest : List Made → List Literal → Watching → Type 0
-IsAtRest made seen w = IsSettled made w.c w.watches ⊎ NoneFalse seen w.c w.watches
+-- no id stands there twice
+abbrev pub AreApart : List Live → Type 0
+AreApart [] = Unit {0}
+AreApart (l ∷ live) = (live_in live l.id ≡ None) × AreApart live
 
--- the number of a literal's chain
-abbrev pub code : Literal → ℕ
-code l = 2 * l.variable + (if l.positive then 0 else 1)
+-- The literal at this place of the trail, if it has a reason, was forced by it: the reason is live, and run as a
+-- hint on the literals before this place it makes the literal true.
+abbrev pub IsForcedAt : List Live → List Made → ℕ → Type 0
+IsForcedAt live made place = (m : Made) (id : ℕ) → slice_get made place ≡ Some m → m.reason ≡ Some id
+    → (c : Bounded) × (live_in live id ≡ Some c) × Forces (take place (literals made)) c m.lit
 
-abbrev pub is_in : ℕ → List ℕ → Bool
-is_in e chain = list_any (λ x. x == e) chain
+-- The constraint of this id is live, and fewer of its literals than its bound are not false, and it has no
+-- guard or a true one: run as a hint on the trail it ends in conflict.
+abbrev pub IsConflict : Engined → ℕ → Type 0
+IsConflict g id = (c : Bounded) × (live_in g.live id ≡ Some c) × (after_hint (literals g.trail.made) c ≡ None)
 
--- a chain from a head on: a head is the number of an entry plus 1, or 0 at the end
-abbrev pub IsChain : List ℕ → ℕ → List ℕ → Type 0
-IsChain nexts head [] = head ≡ 0
-IsChain nexts head (e ∷ chain) = (head ≡ e + 1) × (e < length nexts) × IsChain nexts (slice_index_or nexts e 0) chain
+-- what the last step says
+abbrev pub HasStepped : Engined → Option Step → Type 0
+HasStepped g None = Unit {0}
+HasStepped g (Some Closed) = IsClosed (literals g.trail.made) (constraints g.live)
+HasStepped g (Some (Conflict id)) = IsConflict g id
 
--- The chains, each from its head, and of each entry the one chain in which it can stand.
-pub record AreChains (nexts heads : List ℕ) (chain : ℕ → List ℕ) (home : ℕ → ℕ) : Type 0 where
-  pub spelled : (k : ℕ) → k < length heads → IsChain nexts (slice_index_or heads k 0) (chain k)
-  pub homes : (k e : ℕ) → k < length heads → is_in e (chain k) ≡ true → home e ≡ k
-
-abbrev pub with_chain : (ℕ → List ℕ) → ℕ → List ℕ → ℕ → List ℕ
-with_chain chain k xs = λ j. if j == k then xs else chain j
-
-abbrev pub with_home : (ℕ → ℕ) → ℕ → ℕ → ℕ → ℕ
-with_home home e k = λ x. if x == e then k else home x
-
-abbrev pub spot_at : List Spot → ℕ → Spot
-spot_at spots e = slice_index_or spots e (record { owner = 0; place = 0 })
-
--- Each entry of a chain is that of a watched place whose literal has this chain, each watched place has one
--- entry in the chain of its literal. While the chain `from` is walked, what is left of it stands in the chain `hand`.
-pub record AreLinked (ws : List Watching) (spots : List Spot) (count hand from : ℕ) (chain : ℕ → List ℕ) : Type 0 where
-  pub numbered : (k e : ℕ) → k < count → is_in e (chain k) ≡ true → e < length spots
-  pub owned : (k e : ℕ) → k < count → is_in e (chain k) ≡ true → (spot_at spots e).owner < length ws
-  pub placed : (k e : ℕ) → k < count → is_in e (chain k) ≡ true → (spot_at spots e).place < length (listed (at_slot ws (spot_at spots e).owner).c)
-  pub watched : (k e : ℕ) → k < count → is_in e (chain k) ≡ true → (at_slot ws (spot_at spots e).owner).watches (spot_at spots e).place ≡ true
-  pub coded : (k e : ℕ) → k < count → is_in e (chain k) ≡ true → code (lit_of_spot ws (spot_at spots e)) ≡ (if k == hand then from else k)
-  pub apart : (j k d e : ℕ) → j < count → k < count → is_in d (chain j) ≡ true → is_in e (chain k) ≡ true → spot_at spots d ≡ spot_at spots e → d ≡ e
-  pub all : (slot place : ℕ) → slot < length ws → place < length (listed (at_slot ws slot).c) → (at_slot ws slot).watches place ≡ true →
-    (e : ℕ) × (spot_at spots e ≡ record { owner = slot; place = place })
-      × ((is_in e (chain (code (lit_at (listed (at_slot ws slot).c) place))) ≡ true) ⊎ ((code (lit_at (listed (at_slot ws slot).c) place) ≡ from) × (is_in e (chain hand) ≡ true)))
-
--- While a chain is walked: a constraint is settled, or none of the literals that were visited before is watched
--- and those of this chain that it watches are still to be visited.
-abbrev pub IsWalked : List Made → List Literal → List Spot → List ℕ → ℕ → List Watching → ℕ → Type 0
-IsWalked made seen spots rest from ws slot =
-    IsSettled made (at_slot ws slot).c (at_slot ws slot).watches
-    ⊎ (NoneFalse seen (at_slot ws slot).c (at_slot ws slot).watches
-       × ((place : ℕ) → place < length (listed (at_slot ws slot).c) → (at_slot ws slot).watches place ≡ true → code (lit_at (listed (at_slot ws slot).c) place) ≡ from →
-            (e : ℕ) × (spot_at spots e ≡ record { owner = slot; place = place }) × (is_in e rest ≡ true)))
-
--- the trail with more literals, all of this level
-abbrev pub Grows : ℕ → List Made → List Made → Type 0
-Grows level made new = (more : List Made) × (new ≡ made ++ more) × AllByRecursion (λ m. m.level ≡ level) more
-
--- the first entry of a chain was taken out
-abbrev pub IsDrawn : List ℕ → List ℕ → List ℕ → ℕ → Option ℕ → Type 0
-IsDrawn nexts heads new chain None = (slice_index_or heads chain 0 ≡ 0) × (new ≡ heads)
-IsDrawn nexts heads new chain (Some entry) = (slice_index_or heads chain 0 ≡ entry + 1) × (new ≡ slice_set heads chain (slice_index_or nexts entry 0))
-
--- over these variables, and with its watches
-pub record IsKept (vars : ℕ) (w : Watching) : Type 0 where
-  pub within : IsWithin vars w.c
-  pub has : HasWatches w.c w.watches
-
-abbrev pub AreKept : ℕ → List Watching → Type 0
-AreKept vars ws = (slot : ℕ) → slot < length ws → IsKept vars (at_slot ws slot)
-
--- the chain of the last number is the hand
-abbrev pub hand_of : List ℕ → ℕ
-hand_of heads = length heads - 1
-
--- the tables, and the chains that they spell
-pub record IsWired (ws : List Watching) (spots : List Spot) (nexts heads : List ℕ) (from : ℕ) (chain : ℕ → List ℕ) (home : ℕ → ℕ) : Type 0 where
-  pub chains : AreChains nexts heads chain home
-  pub linked : AreLinked ws spots (length heads) (hand_of heads) from chain
-  pub long : length nexts ≡ length spots
-  pub some : 0 < length heads
-
--- A chain is walked: what is left of it stands in the hand.
-pub record IsWalking (made : List Made) (seen : List Literal) (ws : List Watching) (spots : List Spot) (nexts heads : List ℕ) (from : ℕ) : Type 0 where
-  pub chain : ℕ → List ℕ
-  pub home : ℕ → ℕ
-  pub wired : IsWired ws spots nexts heads from chain home
-  pub walked : (slot : ℕ) → slot < length ws → IsWalked made seen spots (chain (hand_of heads)) from ws slot
-
--- The walk has stopped: the constraints are as quiet as before.
-pub record IsStopped (made : List Made) (seen : List Literal) (ws : List Watching) (spots : List Spot) (nexts heads : List ℕ) (from : ℕ) : Type 0 where
-  pub chain : ℕ → List ℕ
-  pub home : ℕ → ℕ
-  pub wired : IsWired ws spots nexts heads from chain home
-  pub rest : (slot : ℕ) → slot < length ws → IsAtRest made seen (at_slot ws slot)
-
--- the same constraints
-pub record AreSame (ws new : List Watching) : Type 0 where
-  pub long : length new ≡ length ws
-  pub same : (slot : ℕ) → (at_slot new slot).c ≡ (at_slot ws slot).c
-
--- the trail after literals were made true at its level
-pub record IsGrown (t u : Trailed) : Type 0 where
-  pub vars : u.vars ≡ t.vars
-  pub level : u.level ≡ t.level
-  pub grows : Grows t.level t.made u.made
-  pub kept : IsTrail u
-
--- All literals from this place on became true at the present level.
-pub record IsFresh (t : Trailed) (visited : ℕ) : Type 0 where
-  pub trail : IsTrail t
-  pub fresh : (m : Literal) → has (literals (below t.level t.made)) m ≡ true → has (take visited (literals t.made)) m ≡ true
-
--- one watched place less, another more
-pub record Goes (ws new : List Watching) (from to : Spot) : Type 0 where
-  pub long : length new ≡ length ws
-  pub owner : to.owner ≡ from.owner
-  pub same : (slot : ℕ) → (at_slot new slot).c ≡ (at_slot ws slot).c
-  pub others : (slot : ℕ) → slot ≢ from.owner → at_slot new slot ≡ at_slot ws slot
-  pub within : to.place < length (listed (at_slot ws to.owner).c)
-  pub released : (at_slot new from.owner).watches from.place ≡ false
-  pub taken : (at_slot new from.owner).watches to.place ≡ true
-  pub fresh : (at_slot ws from.owner).watches to.place ≡ false
-  pub rest : (place : ℕ) → place ≢ from.place → place ≢ to.place → (at_slot new from.owner).watches place ≡ (at_slot ws from.owner).watches place
-
--- what the visit of an entry did
-abbrev pub IsVisited : Trailed → Trailed → List Watching → List Watching → Spot → Effect → Type 0
-IsVisited t u ws new spot Stays = (new ≡ ws) × IsSatisfied (literals u.made) (at_slot ws spot.owner).c
-IsVisited t u ws new spot (Moved place) =
-    (u ≡ t) × Goes ws new spot (record { owner = spot.owner; place = place }) × (is_open (literals t.made) (lit_of_spot ws (record { owner = spot.owner; place = place })) ≡ true)
-IsVisited t u ws new spot Conflict = (new ≡ ws) × IsConflicting (literals u.made) (at_slot ws spot.owner).c
-
--- what turning to a place did
-abbrev pub IsTurned : List Literal → List Watching → List Watching → Spot → Visit → Type 0
-IsTurned trail ws new spot (turned.Moved place) =
-    Goes ws new spot (record { owner = spot.owner; place = place }) × (is_open trail (lit_of_spot ws (record { owner = spot.owner; place = place })) ≡ true)
-IsTurned trail ws new spot turned.Satisfied = (new ≡ ws) × IsSatisfied trail (at_slot ws spot.owner).c
-IsTurned trail ws new spot turned.Forces = (new ≡ ws) × IsForcing trail (at_slot ws spot.owner).c
-IsTurned trail ws new spot turned.Conflict = (new ≡ ws) × IsConflicting trail (at_slot ws spot.owner).c
-
--- how many entries stand in a chain, of which so many are counted at most
-abbrev pub count_from : List ℕ → ℕ → ℕ → ℕ
-count_from nexts zero head = 0
-count_from nexts (suc n) head = if head == 0 then 0 else 1 + count_from nexts n (slice_index_or nexts (head - 1) 0)
-
--- The hand is empty, and each constraint is at rest.
-pub record IsIdle (made : List Made) (seen : List Literal) (ws : List Watching) (spots : List Spot) (nexts heads : List ℕ) : Type 0 where
-  pub from : ℕ
-  pub stopped : IsStopped made seen ws spots nexts heads from
-  pub empty : slice_index_or heads (hand_of heads) 0 ≡ 0
+-- what the type of an engine keeps
+pub record IsEngine (g : Engined) : Type 0 where
+  pub known : AreKnown g.trail.vars (literals g.trail.made)
+  pub different : AreDifferent (literals g.trail.made)
+  pub levels : (p : ℕ) (m : Made) → slice_get g.trail.made p ≡ Some m → m.level ≤ g.trail.level
+  pub rising : IsRising g.trail.level g.trail.made
+  -- a literal without a reason is the first of its level, which is not 0
+  pub assumed : (p q : ℕ) (m n : Made) → slice_get g.trail.made p ≡ Some m → m.reason ≡ None → slice_get g.trail.made q ≡ Some n → q < p → n.level < m.level
+  pub assumed_above : (p : ℕ) (m : Made) → slice_get g.trail.made p ≡ Some m → m.reason ≡ None → 1 ≤ m.level
+  -- and the first of a level above 0 has no reason
+  pub first : (p : ℕ) (m : Made) → slice_get g.trail.made p ≡ Some m → 1 ≤ m.level → ((q : ℕ) (n : Made) → q < p → slice_get g.trail.made q ≡ Some n → n.level < m.level) → m.reason ≡ None
+  -- above level 0 the last literal is of the present level
+  pub last : 1 ≤ g.trail.level → (m : Made) × (slice_get g.trail.made (length g.trail.made - 1) ≡ Some m) × (m.level ≡ g.trail.level)
+  pub forced : (p : ℕ) → IsForcedAt g.live g.trail.made p
+  -- what going back to a lower level leaves is closed
+  pub closed : (n : ℕ) → n < g.trail.level → IsClosed (literals (below (n + 1) g.trail.made)) (constraints g.live)
+  pub stepped : HasStepped g g.last
+  pub apart : AreApart g.live
+  pub within : AllByRecursion (λ l. IsWithin g.trail.vars l.constraint) g.live

@@ -1,31 +1,63 @@
--- The engine as its callers see it.
-use Rattle.std.specs.Prelude.{ℕ, ◌≡◌, ◌≤◌, ◌<◌, ◌+◌, ◌*◌, List, [], length, take, slice_index_or}
+-- What an engine keeps of its tables, slot by slot.
+use Rattle.std.specs.Prelude.{ℕ, ◌≡◌, ◌≤◌, ◌<◌, ◌+◌, ◌*◌, ◌⊎◌, List, [], ◌∷◌, length, take, slice_get, Option, Some, None}
+use Rattle.kn_logic.specs.Constraints.{Bounded}
 use Rattle.kn_logic.specs.Literals.{Literal}
-use Rattle.kn_logic.specs.Constraints.{Bounded, clause}
 use Rattle.kn_logic.specs.Propagation.{IsShort}
-use Rattle.kn_propagate.specs.declared.engine.Spot.{Spot}
-use Rattle.kn_propagate.specs.Trails.{Trailed, literals, below, IsTrail}
-use Rattle.kn_propagate.specs.Watches.{IsBroad}
-use Rattle.kn_propagate.specs.Engines.{Watching, at_slot, AreKept, IsFresh, IsIdle}
+use Rattle.kn_propagate.specs.declared.trail.Made.{Made}
+use Rattle.kn_propagate.specs.declared.step.Step.{Step}
+use Rattle.kn_propagate.specs.declared.step.Step.TheVariants.{Closed, Conflict}
+use Rattle.kn_propagate.specs.Trails.{Trailed, literals, below}
+use Rattle.kn_propagate.specs.Watches.{IsConflicting}
+use Rattle.kn_propagate.specs.Chains.{Watching, Chained, at_slot, AreKept, IsFresh, IsIdle, HasReason}
+use Rattle.kn_propagate.specs.Engines.{Live}
 
-pub record Engined : Type 0 where
-  pub trail : Trailed
-  pub live : List Bounded
-  pub visited : ℕ
+abbrev pub with_live : Option ℕ → Bounded → List Live → List Live
+with_live None c live = live
+with_live (Some id) c live = record { id = id; constraint = c } ∷ live
 
-abbrev pub bounded_at : List Bounded → ℕ → Bounded
-bounded_at live slot = slice_index_or live slot (clause [])
+-- the constraints of the slots that are not free
+abbrev pub live_of : List Watching → List Live
+live_of [] = []
+live_of (w ∷ ws) = with_live w.id w.c (live_of ws)
 
--- no constraint with more literals than its bound is short
-abbrev pub IsQuiet : List Literal → List Bounded → Type 0
-IsQuiet trail live = (slot : ℕ) → slot < length live → IsBroad (bounded_at live slot) → IsShort trail (bounded_at live slot) → ⊥
+-- no two slots have one id
+abbrev pub AreDistinct : List Watching → Type 0
+AreDistinct ws = (i j id : ℕ) → i < length ws → j < length ws → (at_slot ws i).id ≡ Some id → (at_slot ws j).id ≡ Some id → i ≡ j
 
--- what the type of an engine keeps
-pub record IsEngine (t : Trailed) (ws : List Watching) (spots : List Spot) (nexts heads : List ℕ) (visited : ℕ) : Type 0 where
-  pub sized : length heads ≡ 2 * t.vars + 3
+-- the literal was assumed: the first of its level, which is not 0
+abbrev pub IsAssumed : List Made → ℕ → Made → Type 0
+IsAssumed made place m = (m.reason ≡ None) × (1 ≤ m.level) × ((q : ℕ) (n : Made) → q < place → slice_get made q ≡ Some n → n.level < m.level)
+
+-- its level began before
+abbrev pub IsFollowing : List Made → ℕ → Made → Type 0
+IsFollowing made place m = (m.level ≡ 0) ⊎ ((q : ℕ) × (n : Made) × (q < place) × (slice_get made q ≡ Some n) × (n.level ≡ m.level))
+
+-- each literal was assumed, or forced by its reason when its level had begun
+abbrev pub AreFounded : List Watching → List Made → Type 0
+AreFounded ws made = (place : ℕ) (m : Made) → slice_get made place ≡ Some m → IsAssumed made place m ⊎ (HasReason ws (take place (literals made)) m × IsFollowing made place m)
+
+-- each level above 0 up to the present one has a literal
+abbrev pub AreBegun : Trailed → Type 0
+AreBegun t = (k : ℕ) → 1 ≤ k → k ≤ t.level → (p : ℕ) × (m : Made) × (slice_get t.made p ≡ Some m) × (m.level ≡ k)
+
+abbrev pub IsQuiet : List Literal → List Watching → Type 0
+IsQuiet trail ws = (slot : ℕ) → slot < length ws → IsShort trail (at_slot ws slot).c → ⊥
+
+-- what the last step says, slot by slot
+abbrev pub Says : Trailed → List Watching → ℕ → Option Step → Type 0
+Says t ws visited None = Unit {0}
+Says t ws visited (Some Closed) = (length t.made ≤ visited) × IsQuiet (literals t.made) ws
+Says t ws visited (Some (Conflict id)) = (slot : ℕ) × (slot < length ws) × ((at_slot ws slot).id ≡ Some id) × IsConflicting (literals t.made) (at_slot ws slot).c
+
+pub record IsWhole (t : Trailed) (ws : List Watching) (chains : Chained) (visited : ℕ) (last : Option Step) : Type 0 where
+  pub sized : length chains.heads ≡ 2 * t.vars + 3
   pub visited_ : visited ≤ length t.made
   pub kept : AreKept t.vars ws
+  pub distinct : AreDistinct ws
   pub fresh : IsFresh t visited
-  pub idle : IsIdle t.made (take visited (literals t.made)) ws spots nexts heads
+  pub founded : AreFounded ws t.made
+  pub begun : AreBegun t
+  pub idle : IsIdle t.made (take visited (literals t.made)) ws chains.spots chains.nexts chains.heads
   -- what going back to a lower level leaves is closed
-  pub lower : (k slot : ℕ) → k < t.level → slot < length ws → IsBroad (at_slot ws slot).c → IsShort (literals (below (k + 1) t.made)) (at_slot ws slot).c → ⊥
+  pub lower : (k : ℕ) → k < t.level → IsQuiet (literals (below (k + 1) t.made)) ws
+  pub says : Says t ws visited last

@@ -1,21 +1,22 @@
-//! Propagation over constraints of any two kinds that watch their literals.
+//! Propagation over constraints of any two kinds that watch their literals. The layer above uses `Engine` and
+//! the definitions of `specs/Engines`: what an engine is seen as, and what its type keeps.
 #![tactic(auto)]
 
-
-mod either;
+mod chains;
 mod engine;
 mod looking;
+mod slot;
+mod step;
 mod trail;
+mod visiting;
+mod walking;
 mod watched;
-mod whole;
 
-
-pub use either::Either;
-pub use engine::Spot;
+pub use engine::Engine;
 pub use looking::{forced, is_conflicting};
+pub use step::Step;
 pub use trail::{Made, Trail};
 pub use watched::{Visit, Watched};
-pub use whole::Engine;
 use std::alloc::AllocError;
 
 /// Want of memory.
