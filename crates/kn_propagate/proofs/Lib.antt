@@ -7,8 +7,10 @@ pub mod Relinking
 pub mod Growing
 pub mod Turning
 pub mod Steps
+pub mod Sparing
 pub mod Walks
 pub mod Forcing
+pub mod Reasons
 pub mod Lifting
 pub mod Starting
 pub mod Looks

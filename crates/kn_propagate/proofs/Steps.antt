@@ -180,6 +180,11 @@ numbered ws spots nexts heads new from chain home e w d =
     let l = left ws spots nexts heads new from chain home e w d in
     w.linked.numbered (hand_of heads) e (omega (arith, w.some)) (mine chain (hand_of heads) e l.0 l.1)
 
+pub owned_drawn : (ws : List Watching) (spots : List Spot) (nexts heads new : List ℕ) (from : ℕ) (chain : ℕ → List ℕ) (home : ℕ → ℕ) (e : ℕ) → IsWired ws spots nexts heads from chain home → IsDrawn nexts heads new (hand_of heads) (Some e) → (spot_at spots e).owner < length ws
+owned_drawn ws spots nexts heads new from chain home e w d =
+    let l = left ws spots nexts heads new from chain home e w d in
+    w.linked.owned (hand_of heads) e (omega (arith, w.some)) (mine chain (hand_of heads) e l.0 l.1)
+
 pub entry_is : (ws : List Watching) (spots : List Spot) (nexts heads new : List ℕ) (from : ℕ) (chain : ℕ → List ℕ) (home : ℕ → ℕ) (e : ℕ) (s : Spot) → IsWired ws spots nexts heads from chain home → IsDrawn nexts heads new (hand_of heads) (Some e) → s ≡ spot_at spots e → IsEntry ws spots nexts from e s
 entry_is ws spots nexts heads new from chain home e s w d r =
     let hand = hand_of heads in

@@ -32,6 +32,10 @@ module _ {W : Type 0} (bounded : W → Bounded) (watches : W → ℕ → Bool) w
   length-seen [] = refl
   length-seen (x ∷ xs) = omega (arith, length-seen xs)
 
+  -- what a slot is, where the list is seen as this one
+  pub slot_is : (xs : List (Slot W)) (i : ℕ) (x : Slot W) (ws : List Watching) → i < length ws → seen_as bounded watches xs ≡ ws → x ≡ slice_index_or xs i x → at_slot ws i ≡ a_watching x.id (bounded x.watch) (watches x.watch)
+  slot_is xs i x ws lt e is = ap (λ (z : List Watching). at_slot z i) (sym e) ∙ seen_here xs i x (omega (arith, lt, length-seen xs, ap (λ (z : List Watching). length z) e)) is
+
   pub seen_set : (xs : List (Slot W)) (i : ℕ) (y : Slot W) → seen_as bounded watches (slice_set xs i y) ≡ slice_set (seen_as bounded watches xs) i (seen y)
   seen_set xs i y = map-set seen xs i y
 

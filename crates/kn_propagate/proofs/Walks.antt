@@ -107,6 +107,13 @@ walk_moves t u v visited ws new spots spots2 nexts heads nexts1 heads1 nexts2 he
         (subst (λ (x : List ℕ). IsWalking u.made seen new (slice_set spots e to) x heads2 from) (sym n2)
           (subst (λ (x : List ℕ). IsWalking u.made seen new (slice_set spots e to) (slice_set nexts e (slice_index_or heads1 (code (lit_of_spot ws to)) 0)) x from) (sym h2) done)))
 
+-- the same spots
+pub walking_at : (made : List Made) (seen : List Literal) (ws : List Watching) (spots spots2 : List Spot) (nexts heads : List ℕ) (from : ℕ) → spots2 ≡ spots → IsWalking made seen ws spots nexts heads from → IsWalking made seen ws spots2 nexts heads from
+walking_at made seen ws spots spots2 nexts heads from e w = subst (λ (x : List Spot). IsWalking made seen ws x nexts heads from) (sym e) w
+
+pub stopped_at : (made : List Made) (seen : List Literal) (ws : List Watching) (spots spots2 : List Spot) (nexts heads : List ℕ) (from : ℕ) → spots2 ≡ spots → IsStopped made seen ws spots nexts heads from → IsStopped made seen ws spots2 nexts heads from
+stopped_at made seen ws spots spots2 nexts heads from e w = subst (λ (x : List Spot). IsStopped made seen ws x nexts heads from) (sym e) w
+
 pub walk_less : (ws : List Watching) (spots : List Spot) (nexts heads nexts1 heads1 nexts2 heads2 : List ℕ) (from k : ℕ) (chain : ℕ → List ℕ) (home : ℕ → ℕ) (e : ℕ) → IsWired ws spots nexts heads from chain home → IsDrawn nexts heads heads1 (hand_of heads) (Some e) → k < hand_of heads →
   nexts1 ≡ nexts → nexts2 ≡ slice_set nexts1 e (slice_index_or heads1 k 0) → heads2 ≡ slice_set heads1 k (e + 1) →
   count_from nexts2 (length nexts2) (slice_index_or heads2 (hand_of heads2) 0) < count_from nexts (length nexts) (slice_index_or heads (hand_of heads) 0)
@@ -120,6 +127,9 @@ walk_less ws spots nexts heads nexts1 heads1 nexts2 heads2 from k chain home e w
 
 pub long_kept : (nexts heads heads1 heads2 : List ℕ) (k e n : ℕ) → length heads ≡ n → IsDrawn nexts heads heads1 (hand_of heads) (Some e) → heads2 ≡ slice_set heads1 k (e + 1) → length heads2 ≡ n
 long_kept nexts heads heads1 heads2 k e n q d c = ap (λ (xs : List ℕ). length xs) c ∙ length-set heads1 k (e + 1) ∙ ap (λ (xs : List ℕ). length xs) d.1 ∙ length-set heads (hand_of heads) (slice_index_or nexts e 0) ∙ q
+
+pub same_refl : (ws : List Watching) → AreSame ws ws
+same_refl ws = record { long = refl; same = λ slot. refl; ids = λ slot. refl }
 
 pub same_trans : (a b c : List Watching) → AreSame a b → AreSame b c → AreSame a c
 same_trans a b c s t = record { long = t.long ∙ s.long; same = λ slot. t.same slot ∙ s.same slot; ids = λ slot. t.ids slot ∙ s.ids slot }

@@ -179,6 +179,12 @@ HasReason ws trail m = (slot : ℕ) × (id : ℕ) × (slot < length ws) × (m.re
 abbrev pub AreReasoned : List Watching → List Made → List Made → Type 0
 AreReasoned ws made new = (place : ℕ) (m : Made) → length made ≤ place → slice_get new place ≡ Some m → HasReason ws (take place (literals new)) m
 
+-- The entries whose owner is no slot stay as they were.
+pub record AreSpared (count : ℕ) (old new : Chained) : Type 0 where
+  pub long : length new.spots ≡ length old.spots
+  pub head : new.spare ≡ old.spare
+  pub rest : (e : ℕ) → count ≤ (spot_at old.spots e).owner → (spot_at new.spots e ≡ spot_at old.spots e) × (slice_index_or new.nexts e 0 ≡ slice_index_or old.nexts e 0)
+
 -- All literals from this place on became true at the present level.
 pub record IsFresh (t : Trailed) (visited : ℕ) : Type 0 where
   pub trail : IsTrail t

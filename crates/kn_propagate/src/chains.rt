@@ -62,17 +62,6 @@ impl Chains {
         self.entries[entry].spot
     }
 
-    /// Gives an entry another spot.
-    pub fn place(&mut self, entry: usize, spot: Spot)
-        requires { entry < length self.old.spots }
-        ensures spots { self.new.spots ≡ slice_set self.old.spots entry spot }
-        ensures nexts { self.new.nexts ≡ self.old.nexts }
-        ensures heads { self.new.heads ≡ self.old.heads }
-        ensures spare { self.new.spare ≡ self.old.spare }
-    {
-        self.entries[entry].spot = spot;
-    }
-
     /// Puts an entry in front of a chain.
     pub fn lay(&mut self, chain: usize, entry: usize)
         requires chain { chain < length self.old.heads }
@@ -83,6 +72,20 @@ impl Chains {
         ensures spare { self.new.spare ≡ self.old.spare }
     {
         self.entries[entry].next = self.heads[chain];
+        self.heads[chain] = entry + 1;
+    }
+
+    /// Gives an entry another spot, and puts it in front of a chain.
+    pub fn lay_at(&mut self, chain: usize, entry: usize, spot: Spot)
+        requires chain { chain < length self.old.heads }
+        requires entry { entry < length self.old.nexts }
+        ensures nexts { self.new.nexts ≡ slice_set self.old.nexts entry (slice_index_or self.old.heads chain 0) }
+        ensures heads { self.new.heads ≡ slice_set self.old.heads chain (entry + 1) }
+        ensures spots { self.new.spots ≡ slice_set self.old.spots entry spot }
+        ensures spare { self.new.spare ≡ self.old.spare }
+    {
+        let next = self.heads[chain];
+        self.entries[entry] = Entry { spot, next };
         self.heads[chain] = entry + 1;
     }
 

@@ -3,7 +3,7 @@ ghost use Rattle.std.specs.Prelude.{◌≡◌, ◌≤◌, ◌<◌, ◌+◌, ◌*
 ghost use Rattle.kn_logic.specs.Literals.{negated};
 ghost use Rattle.kn_propagate.specs.Trails.{literals, lit_of};
 ghost use Rattle.kn_propagate.specs.Watches.{listed, lit_at, IsConflicting};
-ghost use Rattle.kn_propagate.specs.Chains.{seen_as, at_slot, code, AreKept, IsWalking, IsStopped, AreSame, IsGrown, AreReasoned, IsFresh, IsIdle, hand_of};
+ghost use Rattle.kn_propagate.specs.Chains.{seen_as, at_slot, code, AreKept, IsWalking, IsStopped, AreSame, IsGrown, AreReasoned, AreSpared, IsFresh, IsIdle, hand_of};
 
 use crate::chains::{code, Chains, Spot};
 use crate::slot::Slot;
@@ -24,6 +24,7 @@ fn code_at<W: Watched>(slots: &Vec<Slot<W>>, owner: usize, place: usize) -> usiz
 /// Walks along what the hand holds of the chain of a literal that became false. The owner of the entry at which
 /// the walk stopped, if it met a conflict.
 fn walk<W: Watched>(slots: &mut Vec<Slot<W>>, chains: &mut Chains, trail: &mut Trail, visited: usize) -> Option<usize>
+    requires small { trail.old.vars < 2 ^ 32 }
     requires sized { length chains.old.heads ≡ 2 * trail.old.vars + 3 }
     requires visited { visited < length trail.old.made }
     requires kept { AreKept trail.old.vars (seen_as W.bounded W.watches slots.old.items) }
@@ -33,6 +34,7 @@ fn walk<W: Watched>(slots: &mut Vec<Slot<W>>, chains: &mut Chains, trail: &mut T
     ensures same { AreSame (seen_as W.bounded W.watches slots.old.items) (seen_as W.bounded W.watches slots.new.items) }
     ensures present { IsGrown trail.old trail.new }
     ensures reasons { AreReasoned (seen_as W.bounded W.watches slots.old.items) trail.old.made trail.new.made }
+    ensures spared { AreSpared (length (seen_as W.bounded W.watches slots.old.items)) chains.old chains.new }
     ensures sized { length chains.new.heads ≡ 2 * trail.old.vars + 3 }
     ensures done { IfNone result (IsStopped trail.new.made (take (visited + 1) (literals trail.new.made)) (seen_as W.bounded W.watches slots.new.items) chains.new.spots chains.new.nexts chains.new.heads (code (negated (lit_of trail.old.made visited)))) }
     ensures empty { IfNone result (slice_index_or chains.new.heads (hand_of chains.new.heads) 0 ≡ 0) }
@@ -46,8 +48,7 @@ fn walk<W: Watched>(slots: &mut Vec<Slot<W>>, chains: &mut Chains, trail: &mut T
             Effect::Stays => chains.lay(from, entry),
             Effect::Moved(place) => {
                 let to = code_at(slots, spot.owner, place);
-                chains.place(entry, Spot { owner: spot.owner, place });
-                chains.lay(to, entry);
+                chains.lay_at(to, entry, Spot { owner: spot.owner, place });
             }
             Effect::Conflict => {
                 chains.lay(from, entry);
@@ -64,6 +65,7 @@ fn restore<W: Watched>(slots: &Vec<Slot<W>>, chains: &mut Chains, trail: &Trail,
     requires stopped { IsStopped trail.now.made (take visited (literals trail.now.made)) (seen_as W.bounded W.watches slots.now.items) chains.old.spots chains.old.nexts chains.old.heads from }
     ensures idle { IsIdle trail.now.made (take visited (literals trail.now.made)) (seen_as W.bounded W.watches slots.now.items) chains.new.spots chains.new.nexts chains.new.heads }
     ensures sized { length chains.new.heads ≡ length chains.old.heads }
+    ensures spared { AreSpared (length (seen_as W.bounded W.watches slots.now.items)) chains.old chains.new }
 {
     while let Some(entry) = chains.draw() {
         chains.lay(from, entry);
@@ -72,6 +74,7 @@ fn restore<W: Watched>(slots: &Vec<Slot<W>>, chains: &mut Chains, trail: &Trail,
 
 /// Visits each literal that was not visited yet. The slot of a constraint in conflict, at which it stopped.
 pub fn propagate<W: Watched>(slots: &mut Vec<Slot<W>>, chains: &mut Chains, trail: &mut Trail, visited: &mut usize) -> Option<usize>
+    requires small { trail.old.vars < 2 ^ 32 }
     requires sized { length chains.old.heads ≡ 2 * trail.old.vars + 3 }
     requires visited { visited.old ≤ length trail.old.made }
     requires kept { AreKept trail.old.vars (seen_as W.bounded W.watches slots.old.items) }
@@ -82,6 +85,7 @@ pub fn propagate<W: Watched>(slots: &mut Vec<Slot<W>>, chains: &mut Chains, trai
     ensures same { AreSame (seen_as W.bounded W.watches slots.old.items) (seen_as W.bounded W.watches slots.new.items) }
     ensures present { IsGrown trail.old trail.new }
     ensures reasons { AreReasoned (seen_as W.bounded W.watches slots.old.items) trail.old.made trail.new.made }
+    ensures spared { AreSpared (length (seen_as W.bounded W.watches slots.old.items)) chains.old chains.new }
     ensures visited { visited.new ≤ length trail.new.made }
     ensures fresh { IsFresh trail.new visited.new }
     ensures idle { IsIdle trail.new.made (take visited.new (literals trail.new.made)) (seen_as W.bounded W.watches slots.new.items) chains.new.spots chains.new.nexts chains.new.heads }
