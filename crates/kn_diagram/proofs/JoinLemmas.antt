@@ -49,7 +49,7 @@ pub AreExplained-kept : (join : Bool → Bool → Bool) (old new : Table) (befor
 AreExplained-kept join old new before [] k h = tt
 AreExplained-kept join old new before (m ∷ ms) k h = (IsExplained-kept join old new before m k h.0, AreExplained-kept join old new (before ++ m ∷ []) ms k h.1)
 
-AreExplained-more : (join : Bool → Bool → Bool) (d : Table) (before ms : List Met) (m : Met) → AreExplained join d before ms → IsExplained join d (before ++ ms) m
+pub AreExplained-more : (join : Bool → Bool → Bool) (d : Table) (before ms : List Met) (m : Met) → AreExplained join d before ms → IsExplained join d (before ++ ms) m
     → AreExplained join d before (ms ++ m ∷ [])
 AreExplained-more join d before [] m h e = (subst (λ b. IsExplained join d b m) (append-nil before) e, tt)
 AreExplained-more join d before (x ∷ ms) m h e =

@@ -3,6 +3,8 @@ pub mod MemoLemmas
 pub mod PlaceLemmas
 pub mod NodeLemmas
 pub mod JoinLemmas
+pub mod ChildLemmas
+pub mod Public
 pub mod ClauseLemmas
 pub mod WidthLemmas
 pub mod CountLemmas
@@ -10,5 +12,6 @@ pub mod ReachLemmas
 pub mod WayLemmas
 pub mod WideLemmas
 pub mod DependLemmas
+pub mod FewLemmas
 pub mod TestLemmas
 pub mod GridLemmas

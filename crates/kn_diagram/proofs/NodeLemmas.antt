@@ -244,5 +244,7 @@ has_nodes d ok = record {
   no_depth = depth_of-constant d 0 (lit< tt);
   yes_depth = depth_of-constant d 1 (lit< tt);
   depth_within = λ node h. depth_of-within d node ok h;
+  branch = λ node two h. branch-is d node (slice_index d.order (depth_of d node)) (high_of d node) (low_of d node) ok h two refl refl refl;
+  place = λ depth h. depth_in-slice_index d.order depth ok.order h;
   below = λ node v w h agree. function_of-below d node v w ok h agree;
 }

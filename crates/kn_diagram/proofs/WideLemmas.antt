@@ -8,7 +8,7 @@ use Rattle.std.proofs.lemmas.List.{length-map}
 use Rattle.std.proofs.lemmas.Bool.{eqb-true, eqb-false, eq-eqb, ne_eqb, cond-true, cond-false, and_parts, or_cases, cases_eq, cases_lt}
 use Rattle.kn_diagram.specs.Diagrams.{Row, Table, IsNode, row_in, value_in, function_of, depth_of, high_of, low_of, IsTable, depth_in, AgreeFrom}
 use Rattle.kn_diagram.specs.Widths.{reaches, reached_below, width_at, IsFirstWide}
-use Rattle.kn_diagram.specs.Wide.{remaining, Differ, AllDiffer, DependsOn, IsWideAt, IsTopmost, IsWide}
+use Rattle.kn_diagram.specs.Wide.{remaining, Differ, AllDiffer, DependsOn, IsWideAt, IsWide}
 use Rattle.kn_diagram.proofs.RowLemmas.{Branches, branches, value_in-below, put, put-same, put-other, deep-constant, canonical_in}
 use Rattle.kn_diagram.proofs.NodeLemmas.{depth_in-slice_index, slice_index-depth_in, function_of-below}
 use Rattle.kn_diagram.proofs.CountLemmas.{listed, listed-has, is_counted, length-listed}
@@ -381,17 +381,6 @@ pub wide-at : (d : Table) (from depth level : ℕ) → IsTable d → IsNode d fr
 wide-at d from depth level ok h f is =
     let at : depth_in d.order level ≡ depth = ap (depth_in d.order) is ∙ depth_in-slice_index d.order depth ok.order f.within in
     width-wide d from level ok h (omega (arith, at, f.within)) (omega (arith, f.wide, ap (width_at d from) at))
-
--- no variable above it is one where the function is wide
-pub topmost-at : (d : Table) (from depth level : ℕ) → IsTable d → IsNode d from → IsFirstWide d from depth → level ≡ slice_index d.order depth → IsTopmost d.order (function_of d from) level
-topmost-at d from depth level ok h f is = record { below = λ z w. by z w (cases_lt (depth_in d.order z) depth) }
-  where
-    at : depth_in d.order level ≡ depth
-    at = ap (depth_in d.order) is ∙ depth_in-slice_index d.order depth ok.order f.within
-
-    by : (z : ℕ) → IsWideAt d.order (function_of d from) z → ((depth_in d.order z < depth) ⊎ (depth ≤ depth_in d.order z)) → depth_in d.order level ≤ depth_in d.order z
-    by z w (inl l) = absurd (omega (arith, wide-width d from z ok h w, f.first (depth_in d.order z) l))
-    by z w (inr l) = omega (arith, at)
 
 pub not-wide : (d : Table) (from : ℕ) → IsTable d → IsNode d from → ((k : ℕ) → k < length d.order → width_at d from k ≤ 256) → IsWide d.order (function_of d from) → ⊥
 not-wide d from ok h few (variable, w) = absurd (omega (arith, wide-width d from variable ok h w, few (depth_in d.order variable) w.there))

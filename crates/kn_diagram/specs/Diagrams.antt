@@ -155,6 +155,10 @@ pub record IsBranch (d : Table) (node variable high low : ℕ) : Type 0 where
 abbrev pub IsCanonical : Table → Type 0
 IsCanonical d = (f g : ℕ) → IsNode d f → IsNode d g → ((v : ℕ → Bool) → function_of d f v ≡ function_of d g v) → f ≡ g
 
+-- the same values, but this one for this variable
+abbrev pub with_value : (ℕ → Bool) → ℕ → Bool → ℕ → Bool
+with_value v variable b = λ x. if x == variable then b else v x
+
 -- whether a literal is true where the variables have these values
 abbrev pub is_true_by : (ℕ → Bool) → Literal → Bool
 is_true_by v l = if l.positive then v l.variable else not (v l.variable)
@@ -167,12 +171,15 @@ asks lits variable positive = list_any (λ l. (l.variable == variable) && (if po
 abbrev pub AgreeFrom : Table → ℕ → (ℕ → Bool) → (ℕ → Bool) → Type 0
 AgreeFrom d depth v w = (k : ℕ) → depth ≤ k → k < length d.order → v (slice_index d.order k) ≡ w (slice_index d.order k)
 
--- What holds of each table: the constants, and that a node's function hangs on the node's own variable
--- and on those further down alone.
+-- What holds of each table: the constants; each other node is a branch of the variable at its depth; each
+-- variable stands at one place of the order; and a node's function hangs on the node's own variable and on
+-- those further down alone.
 pub record HasNodes (d : Table) : Type 0 where
   pub no : (v : ℕ → Bool) → function_of d 0 v ≡ false
   pub yes : (v : ℕ → Bool) → function_of d 1 v ≡ true
   pub no_depth : depth_of d 0 ≡ length d.order
   pub yes_depth : depth_of d 1 ≡ length d.order
   pub depth_within : (node : ℕ) → IsNode d node → depth_of d node ≤ length d.order
+  pub branch : (node : ℕ) → 2 ≤ node → IsNode d node → IsBranch d node (slice_index d.order (depth_of d node)) (high_of d node) (low_of d node)
+  pub place : (depth : ℕ) → depth < length d.order → depth_in d.order (slice_index d.order depth) ≡ depth
   pub below : (node : ℕ) (v w : ℕ → Bool) → IsNode d node → AgreeFrom d (depth_of d node) v w → function_of d node v ≡ function_of d node w

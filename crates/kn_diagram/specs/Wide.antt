@@ -1,5 +1,5 @@
 -- Where a function is wide: too many different functions remain of it. Said by functions alone.
-use Rattle.std.specs.Prelude.{ℕ, ◌≡◌, ◌<◌, ◌≤◌, ◌==◌, Bool, true, false, if◌then◌else◌, List, [], ◌∷◌, length, map, nat_lt, slice_index_or}
+use Rattle.std.specs.Prelude.{ℕ, ◌≡◌, ◌<◌, ◌==◌, Bool, true, false, if◌then◌else◌, List, [], ◌∷◌, length, map, nat_lt, slice_index_or}
 use Rattle.std.specs.List.{AllByRecursion}
 use Rattle.kn_diagram.specs.declared.error.DiagramError.{DiagramError}
 use Rattle.kn_diagram.specs.declared.error.DiagramError.TheVariants.{Wide, Memory}
@@ -27,6 +27,10 @@ DependsOn f variable = (v : ℕ → Bool) × (f (λ x. if x == variable then tru
 abbrev pub Ignores : ((ℕ → Bool) → Bool) → ℕ → Type 0
 Ignores f variable = (v : ℕ → Bool) (b : Bool) → f (λ x. if x == variable then b else v x) ≡ f v
 
+-- A function hangs on the variables of an order alone.
+abbrev pub HangsOn : List ℕ → ((ℕ → Bool) → Bool) → Type 0
+HangsOn order f = (v w : ℕ → Bool) → ((x : ℕ) → depth_in order x < length order → v x ≡ w x) → f v ≡ f w
+
 -- There are 257 ways down to the variable that leave 257 different functions, each of which depends on
 -- the variable.
 pub record IsWideAt (order : List ℕ) (f : (ℕ → Bool) → Bool) (variable : ℕ) : Type 0 where
@@ -37,15 +41,11 @@ pub record IsWideAt (order : List ℕ) (f : (ℕ → Bool) → Bool) (variable :
   pub different : AllDiffer (map (remaining order f) ways)
   pub depend : AllByRecursion (λ way. DependsOn (remaining order f way) variable) ways
 
--- Where the function is wide at all, it is so at this variable or further down.
-pub record IsTopmost (order : List ℕ) (f : (ℕ → Bool) → Bool) (variable : ℕ) : Type 0 where
-  pub below : (other : ℕ) → IsWideAt order f other → depth_in order variable ≤ depth_in order other
-
 -- A function is wide where it is wide at some variable.
 abbrev pub IsWide : List ℕ → ((ℕ → Bool) → Bool) → Type 0
 IsWide order f = (variable : ℕ) × IsWideAt order f variable
 
--- what holds of the variable that an error names as the one where the result is wide
+-- what holds of the variable that an error names as one where the result is wide
 abbrev pub IfWide : DiagramError → (ℕ → Type 0) → Type 0
 IfWide (Wide level) P = P level
 IfWide Memory P = Unit {0}

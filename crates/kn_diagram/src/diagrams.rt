@@ -3,7 +3,7 @@ ghost use Rattle.std.specs.List.{IsDistinct, AllByRecursion, list_any};
 ghost use Rattle.kn_logic.specs.Constraints.{is_clause};
 ghost use Rattle.kn_logic.specs.Assignments.{value_of};
 ghost use Rattle.kn_diagram.specs.Widths.{IsWidest};
-ghost use Rattle.kn_diagram.specs.Wide.{IfWide, IsWideAt, IsTopmost, IsWide, DependsOn, Ignores};
+ghost use Rattle.kn_diagram.specs.Wide.{IfWide, IsWideAt, IsWide, DependsOn, Ignores};
 ghost use Rattle.kn_diagram.specs.Traces.{connective, AreExplained, Gains, IsRight, Explains};
 ghost use Rattle.kn_diagram.specs.Diagrams.{IsNode, function_of, depth_of, depth_in, is_true_by, asks, IsBranch, IsCanonical, HasNodes, IsTable, IsSplit, IsMade, Keeps};
 
@@ -96,7 +96,6 @@ impl Diagrams {
         ensures traced { IfOk result (λ w. Explains (λ a b. a && b) self.new trace.old trace.new (record { u = f; v = g; w = w })) }
         ensures err { OnErr result (trace.new ≡ trace.old) }
         ensures wide { IfErr result (λ e. IfWide e (λ level. IsWideAt self.old.order (λ v. function_of self.old f v && function_of self.old g v) level)) }
-        ensures topmost { IfErr result (λ e. IfWide e (λ level. IsTopmost self.old.order (λ v. function_of self.old f v && function_of self.old g v) level)) }
         ensures narrow { IfOk result (λ w. IsWide self.new.order (function_of self.new w) → ⊥) }
     {
         self.traced(Joint::And, f, g, trace)
@@ -113,7 +112,6 @@ impl Diagrams {
         ensures traced { IfOk result (λ w. Explains (λ a b. a || b) self.new trace.old trace.new (record { u = f; v = g; w = w })) }
         ensures err { OnErr result (trace.new ≡ trace.old) }
         ensures wide { IfErr result (λ e. IfWide e (λ level. IsWideAt self.old.order (λ v. function_of self.old f v || function_of self.old g v) level)) }
-        ensures topmost { IfErr result (λ e. IfWide e (λ level. IsTopmost self.old.order (λ v. function_of self.old f v || function_of self.old g v) level)) }
         ensures narrow { IfOk result (λ w. IsWide self.new.order (function_of self.new w) → ⊥) }
     {
         self.traced(Joint::Or, f, g, trace)
@@ -221,11 +219,10 @@ impl Diagrams {
         self.rows.len() as u64 + 2
     }
 
-    /// An error exactly where the function of a node is wide: it names the topmost variable where it is.
+    /// An error exactly where the function of a node is wide: it names a variable where it is.
     pub fn refuse_wide(&self, w: Node) -> Result<(), DiagramError>
         requires { IsNode self.now w }
         ensures wide { IfErr result (λ e. IfWide e (λ level. IsWideAt self.now.order (function_of self.now w) level)) }
-        ensures topmost { IfErr result (λ e. IfWide e (λ level. IsTopmost self.now.order (function_of self.now w) level)) }
         ensures narrow { OnOk result (IsWide self.now.order (function_of self.now w) → ⊥) }
     {
         if let Some(depth) = width::first_wide(*self.order.allocator(), self, w)? {
@@ -331,7 +328,6 @@ impl Diagrams {
         ensures explained { IfOk result (λ w. Explains (connective joint) self.new trace.old trace.new (record { u = f; v = g; w = w })) }
         ensures err { OnErr result (trace.new ≡ trace.old) }
         ensures wide { IfErr result (λ e. IfWide e (λ level. IsWideAt self.old.order (λ v. connective joint (function_of self.old f v) (function_of self.old g v)) level)) }
-        ensures topmost { IfErr result (λ e. IfWide e (λ level. IsTopmost self.old.order (λ v. connective joint (function_of self.old f v) (function_of self.old g v)) level)) }
         ensures narrow { IfOk result (λ w. IsWide self.new.order (function_of self.new w) → ⊥) }
     {
         let mut memo = Memo::new(*self.order.allocator());

@@ -5,7 +5,7 @@ use kn_logic::NoMemory;
 /// Why an operation on diagrams gave no node.
 #[derive(Clone, Copy, Debug, PartialEq, Eq)]
 pub enum DiagramError {
-    /// The result's function is wide: this is the topmost variable where it is.
+    /// The result's function is wide at the variable of this number.
     Wide { level: u64 },
 
     /// Memory ran out.

@@ -12,6 +12,7 @@ mod error;
 #[cfg(test)]
 mod grids;
 mod joint;
+mod laws;
 mod memo;
 mod node;
 mod node_set;
@@ -23,6 +24,7 @@ mod width;
 
 pub use diagrams::Diagrams;
 pub use error::DiagramError;
+pub use laws::{few_variables_are_narrow, found_results_are_right, results_have_their_halves};
 pub use memo::Memo;
 pub use node::Node;
 pub use trace::{Met, Trace};

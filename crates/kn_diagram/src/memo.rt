@@ -44,10 +44,11 @@ impl Memo {
         }
     }
 
-    /// Notes the result for a pair that is not there.
+    /// Notes the result for a pair that is not there. After an error nothing has changed.
     pub fn insert(&mut self, u: Node, v: Node, w: Node) -> Result<(), NoMemory>
         requires { found self.old u v ≡ None }
-        ensures { OnOk result (self.new ≡ self.old ++ record { u = u; v = v; w = w } ∷ []) }
+        ensures ok { OnOk result (self.new ≡ self.old ++ record { u = u; v = v; w = w } ∷ []) }
+        ensures err { OnErr result (self.new ≡ self.old) }
     {
         self.results.insert((u.number(), v.number()), w.number())?;
         Ok(())

@@ -10,8 +10,7 @@ use Rattle.kn_logic.specs.Constraints.{Bounded, clause, klause, is_clause, named
 use Rattle.kn_logic.specs.Formulas.{Problem, IsFormula}
 use Rattle.kn_text.specs.Lines.{Line, is_blank, content_of, numbered, line_text, IsPlain, IsPlainLine, IsContent}
 use Rattle.kn_text.specs.Lists.{LiteralsThen}
-use Rattle.kn_text.proofs.Spelled.{number_of_decimal, decimal_is_plain, literal_word_is_plain, literal_of_word, literal_not_skipped}
-use Rattle.kn_text.proofs.Written.{content_of_lines}
+use Rattle.kn_text.proofs.Public.{number_of_decimal, decimal_is_plain, literal_word_is_plain, literal_of_word, literal_not_skipped, content_of_lines}
 use Rattle.kn_format.specs.declared.format.Format.{Format}
 use Rattle.kn_format.specs.declared.format.Format.TheVariants.{Cnf, Knf}
 use Rattle.kn_format.specs.Grammar.{most_variables, most_constraints, highest_bound, format_word, ClauseThen, MarkedThen, ConstraintThen, SpellConstraints, words_in, Spells}

@@ -9,7 +9,7 @@ use Rattle.std.specs.List.{AllByRecursion}
 use Rattle.kn_logic.specs.Literals.{Literal, IsKnown, AreDifferent, names}
 use Rattle.kn_logic.specs.Constraints.{Bounded, clause, klause, guarded_klause, named, is_clause, IsWithin, Fits}
 use Rattle.kn_text.specs.Numbers.{number_of, literal_of, is_end}
-use Rattle.kn_text.proofs.Spelled.{literal_of_writable}
+use Rattle.kn_text.proofs.Public.{literal_of_writable}
 use Rattle.kn_format.specs.declared.format.Format.{Format}
 use Rattle.kn_format.specs.declared.format.Format.TheVariants.{Cnf, Knf}
 use Rattle.kn_format.specs.declared.place.Place.{Place}

@@ -7,7 +7,7 @@ use Rattle.std.specs.Str.{bytes_eq}
 use Rattle.kn_logic.specs.Literals.{Literal, names}
 use Rattle.kn_logic.specs.Constraints.{Bounded, clause, guarded_klause, named}
 use Rattle.kn_text.specs.Numbers.{number_of, literal_of, is_end}
-use Rattle.kn_text.proofs.Spelled.{literal_is_no_end}
+use Rattle.kn_text.proofs.Public.{literal_is_no_end}
 use Rattle.kn_format.specs.declared.format.Format.{Format}
 use Rattle.kn_format.specs.declared.format.Format.TheVariants.{Cnf, Knf}
 use Rattle.kn_format.specs.declared.place.Place.{Place}

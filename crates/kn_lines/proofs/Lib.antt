@@ -1,3 +1,4 @@
-pub mod Spelling
-pub mod Text
-pub mod Written
+mod Spelling
+mod Text
+mod Written
+pub mod Public

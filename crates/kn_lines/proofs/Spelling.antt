@@ -8,7 +8,7 @@ use Rattle.std.proofs.lemmas.Slice.Eq.{bytes_eq-Decides}
 use Rattle.kn_logic.specs.Literals.{Literal}
 use Rattle.kn_text.specs.Lines.{is_skipped}
 use Rattle.kn_text.specs.Numbers.{number_of, literal_of, is_end, is_zero}
-use Rattle.kn_text.proofs.Spelled.{literal_is_no_end}
+use Rattle.kn_text.proofs.Public.{literal_is_no_end}
 use Rattle.kn_text.specs.Lists.{LiteralsThen}
 use Rattle.kn_logic.specs.Constraints.{Bounded, klause}
 use Rattle.kn_lines.specs.declared.line.Arm.{Arm}

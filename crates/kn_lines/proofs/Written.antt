@@ -6,8 +6,7 @@ use Rattle.kn_logic.specs.Constraints.{Bounded}
 use Rattle.kn_text.specs.Lines.{StandsInWord, IsPlain, IsPlainLine, IsContent}
 use Rattle.kn_text.specs.Numbers.{literal_word}
 use Rattle.kn_text.specs.Lists.{LiteralsThen}
-use Rattle.kn_text.proofs.Spelled.{number_of_decimal, decimal_is_plain, literal_of_word, literal_word_is_plain, number_of_below, literal_of_writable}
-use Rattle.kn_text.proofs.Written.{words_of_joined}
+use Rattle.kn_text.proofs.Public.{number_of_decimal, decimal_is_plain, literal_of_word, literal_word_is_plain, number_of_below, literal_of_writable, words_of_joined}
 use Rattle.kn_lines.specs.declared.line.Arm.{Arm}
 use Rattle.kn_lines.specs.declared.line.Arm.TheVariants.{True, False, Lit}
 use Rattle.kn_lines.specs.declared.line.Line.{Line}

@@ -16,7 +16,7 @@ pub use laws::{one_spelling, written_line_is_read};
 pub use line::{Arm, Line};
 pub use reading::read_line;
 use std::alloc::AllocError;
-pub use writing::{push_line, write_line};
+pub use writing::write_line;
 
 /// Want of memory.
 pub type NoMemory = AllocError;

@@ -191,15 +191,3 @@ fn writes_unfoldings(rt: HostRuntime) -> Result<(), Fail> {
     assert_eq!(rt; text.as_slice(), b"g 3 9\n".as_slice());
     Ok(())
 }
-
-#[test]
-fn appends(rt: HostRuntime) -> Result<(), Fail> {
-    let mut text = Vec::from_slice(rt.alloc(), b"c")?;
-    let header = Line::Header {
-        vars: 2,
-        constraints: 10,
-    };
-    push_line(&mut text, &header)?;
-    assert_eq!(rt; text.as_slice(), b"cp kpf 2 10\n".as_slice());
-    Ok(())
-}

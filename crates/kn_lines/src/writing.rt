@@ -21,9 +21,8 @@ pub fn write_line(alloc: Global, line: &Line) -> Result<Vec<u8>, NoMemory>
     Ok(text)
 }
 
-/// Appends the text of a line of a proof, with its line feed. Where memory runs out, `out` may hold a part
-/// of it.
-pub fn push_line(out: &mut Vec<u8>, line: &Line) -> Result<(), NoMemory>
+// Appends a line with its line feed. Where memory is wanting, `out` may hold a part of it.
+fn push_line(out: &mut Vec<u8>, line: &Line) -> Result<(), NoMemory>
     requires { IsWellFormed line.now }
     ensures text { OnOk result (out.new.items ≡ out.old.items ++ line_text (line_words line.now)) }
     ensures range { OnOk result (IsInRange line.now) }

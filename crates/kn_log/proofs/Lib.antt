@@ -1,4 +1,5 @@
-pub mod Text
-pub mod Added
+mod Text
+mod Added
 mod Failing
 mod Twice
+pub mod Public

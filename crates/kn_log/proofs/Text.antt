@@ -3,15 +3,16 @@ use Rattle.std.proofs.Common.{◌≡◌, ℕ, ◌+◌, ◌<◌, ◌^◌, Bool, t
 use Rattle.std.specs.List.{AllByRecursion, flat_map}
 use Rattle.kn_logic.specs.Formulas.{Problem}
 use Rattle.kn_text.specs.Lines.{Line as TextLine, line_text, IsPlainLine, IsContent, content_of, numbered}
-use Rattle.kn_text.proofs.Written.{content_of_lines}
+use Rattle.kn_text.proofs.Public.{content_of_lines}
 use Rattle.kn_lines.specs.declared.line.Line.{Line}
 use Rattle.kn_lines.specs.declared.line.Line.TheVariants.{Header, Define, Lemma, Learned, Klause, Unfold, Delete}
 use Rattle.kn_lines.specs.Lines.{line_words}
-use Rattle.kn_lines.proofs.Written.{written_words_spell, written_is_plain, written_is_content, spelled_is_in_range}
+use Rattle.kn_lines.proofs.Public.{written_words_spell, written_is_plain, written_is_content, spelled_is_in_range}
 use Rattle.kn_rules.specs.States.{ProofState, start}
+use Rattle.kn_rules.specs.Stepping.{StepsBy, is_learned_clause, learned_in}
 use Rattle.kn_rules.specs.Proofs.{Runs, StepsThrough, Steps, IsProof}
 use Rattle.kn_log.specs.Logs.{header_of, line_bytes, IsSpelled}
-use Rattle.kn_log.specs.Written.{StepsBy, AreSpelled, lines_bytes, is_learned, learned_in, begins_with_l, learned_among, learned_count}
+use Rattle.kn_log.specs.Written.{AreSpelled, lines_bytes, begins_with_l, learned_among, learned_count}
 
 spelled_is_plain : (lines : List Line) → AreSpelled lines → AllByRecursion IsPlainLine (map line_words lines)
 spelled_is_plain [] h = tt
@@ -45,7 +46,7 @@ pub written_proof : (f : Problem) (lines : List Line) (last : ProofState) → f.
 written_proof f lines last v c s h e = (last, written_steps f lines last v c s h, e)
 
 -- learned clauses are counted by their first word
-first_word : (line : Line) → begins_with_l (line_words line) ≡ is_learned line
+first_word : (line : Line) → begins_with_l (line_words line) ≡ is_learned_clause line
 first_word (Header vars constraints) = refl
 first_word (Define x high low) = refl
 first_word (Lemma c hints) = refl
@@ -58,7 +59,7 @@ learned_among_logged : (lines : List Line) (number : ℕ) → learned_among (num
 learned_among_logged [] number = refl
 learned_among_logged (line ∷ lines) number =
     ap (λ (b : Bool). (if b then 1 else 0) + learned_among (numbered (number + 1) (map line_words lines))) (first_word line)
-    ∙ ap (λ (n : ℕ). (if is_learned line then 1 else 0) + n) (learned_among_logged lines (number + 1))
+    ∙ ap (λ (n : ℕ). (if is_learned_clause line then 1 else 0) + n) (learned_among_logged lines (number + 1))
 
 pub written_learned : (f : Problem) (lines : List Line) → f.vars < 2 ^ 64 → length f.constraints < 2 ^ 64 → AreSpelled lines → learned_count (lines_bytes (header_of f ∷ lines)) ≡ learned_in lines
 written_learned f lines v c h =

@@ -1,35 +1,20 @@
 -- Lines that were logged one after another, and the text that they make.
-use Rattle.std.specs.Prelude.{ℕ, ◌≡◌, ◌+◌, Bool, true, false, if◌then◌else◌, List, [], ◌∷◌, Option, Ok, codes}
+use Rattle.std.specs.Prelude.{ℕ, ◌≡◌, ◌+◌, ◌++◌, Bool, true, false, if◌then◌else◌, List, [], ◌∷◌, Option, Result, Ok, Err, codes}
 use Rattle.std.specs.List.{AllByRecursion, flat_map}
 use Rattle.std.specs.Str.{bytes_eq}
-use Rattle.kn_bytes.specs.Outside.{Got}
+use Rattle.kn_bytes.specs.Outside.{Got, GotPrefix}
 use Rattle.kn_text.specs.Lines.{Line as TextLine, content_of}
 use Rattle.kn_lines.specs.declared.line.Line.{Line}
-use Rattle.kn_lines.specs.declared.line.Line.TheVariants.{Learned}
-use Rattle.kn_rules.specs.States.{ProofState}
-use Rattle.kn_rules.specs.Steps.{step}
-use Rattle.kn_log.specs.Logs.{line_bytes, IsSpelled}
-
--- the lines step, one after another, from the one state to the other
-abbrev pub StepsBy : ProofState → List Line → ProofState → Type 0
-StepsBy old [] new = old ≡ new
-StepsBy old (line ∷ lines) new = (next : ProofState) × (step old line ≡ Ok next) × StepsBy next lines new
+use Rattle.kn_rules.specs.Stepping.{StepsBy}
+use Rattle.kn_log.specs.declared.error.LogError.{LogError}
+use Rattle.kn_log.specs.declared.error.LogError.TheVariants.{Fault, Memory}
+use Rattle.kn_log.specs.Logs.{Logged, line_bytes, IsSpelled}
 
 abbrev pub AreSpelled : List Line → Type 0
 AreSpelled lines = AllByRecursion IsSpelled lines
 
 abbrev pub lines_bytes : List Line → List ℕ
 lines_bytes lines = flat_map line_bytes lines
-
--- whether a line is a learned clause
-abbrev pub is_learned : Line → Bool
-is_learned (Learned clause hints) = true
-is_learned _ = false
-
--- how many of the lines are learned clauses
-abbrev pub learned_in : List Line → ℕ
-learned_in [] = 0
-learned_in (line ∷ lines) = (if is_learned line then 1 else 0) + learned_in lines
 
 -- whether the first word of a line is `l`
 abbrev pub begins_with_l : List (List ℕ) → Bool
@@ -45,9 +30,34 @@ learned_among (text ∷ texts) = (if begins_with_l text.words then 1 else 0) + l
 abbrev pub learned_count : List ℕ → ℕ
 learned_count bytes = learned_among (content_of bytes)
 
--- the lines that were added between two states, and what a sink has got of them: all their bytes
-pub record Adds (old new : ProofState) (w w' : Option (List ℕ)) : Type 0 where
-  pub lines : List Line
-  pub steps : StepsBy old lines new
+-- These lines were logged, one after another: they step, they can be read again, and the sink has got all their
+-- bytes.
+pub record Adds (lines : List Line) (old new : Logged) (w w' : Option (List ℕ)) : Type 0 where
+  pub steps : StepsBy old.state lines new.state
   pub spelled : AreSpelled lines
   pub got : Got w w' (lines_bytes lines)
+  pub whole : new.failed ≡ false
+
+-- These lines were logged, and one more behind them, of which the sink has got a front. The log has failed.
+pub record Breaks (lines : List Line) (last : Line) (old new : Logged) (w w' : Option (List ℕ)) : Type 0 where
+  pub steps : StepsBy old.state (lines ++ last ∷ []) new.state
+  pub spelled : AreSpelled (lines ++ last ∷ [])
+  pub got : (mid : Option (List ℕ)) × Got w mid (lines_bytes lines) × GotPrefix mid w' (line_bytes last)
+  pub failed : new.failed ≡ true
+
+-- The same, of lines of which a layer above says more.
+abbrev pub AddsSuch : (List Line → Type 0) → Logged → Logged → Option (List ℕ) → Option (List ℕ) → Type 0
+AddsSuch P old new w w' = (lines : List Line) × P lines × Adds lines old new w w'
+
+abbrev pub BreaksSuch : (List Line → Type 0) → Logged → Logged → Option (List ℕ) → Option (List ℕ) → Type 0
+BreaksSuch P old new w w' = (lines : List Line) × (last : Line) × P (lines ++ last ∷ []) × Breaks lines last old new w w'
+
+-- what a call that logs such lines has done where it failed: all that it logged was written but for a fault
+abbrev pub LogsSuchNot : (List Line → Type 0) → Logged → Logged → Option (List ℕ) → Option (List ℕ) → LogError → Type 0
+LogsSuchNot P old new w w' Fault = BreaksSuch P old new w w'
+LogsSuchNot P old new w w' Memory = AddsSuch P old new w w'
+
+-- what a call that logs such lines has done to the log and its sink
+abbrev pub LogsSuch : {T : Type 0} → (List Line → Type 0) → Logged → Logged → Option (List ℕ) → Option (List ℕ) → Result T LogError → Type 0
+LogsSuch P old new w w' (Ok _) = AddsSuch P old new w w'
+LogsSuch P old new w w' (Err e) = LogsSuchNot P old new w w' e

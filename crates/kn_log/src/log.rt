@@ -9,7 +9,7 @@ ghost use Rattle.kn_log.specs.Logs.{Logs, Opens, IsReadable, header_of};
 
 use crate::LogError;
 use kn_bytes::{Sink, write_all};
-use kn_lines::{Arm, Ids, Line, push_line, write_line};
+use kn_lines::{Arm, Ids, Line, write_line};
 use kn_logic::{Constraint, Formula, Lit};
 use kn_rules::Checker;
 use std::alloc::Global;
@@ -18,8 +18,8 @@ use std::marker::Model;
 /// A proof as far as it was made: each line stepped, and was given to a sink.
 #[derive(Drop)]
 pub struct Log {
+    alloc: Global,
     checker: Checker,
-    text: Vec<u8>,
     failed: bool,
 }
 
@@ -52,8 +52,8 @@ impl Log {
             return Err(LogError::Fault);
         }
         Ok(Log {
+            alloc,
             checker,
-            text,
             failed: false,
         })
     }
@@ -206,9 +206,10 @@ impl Log {
         self.checker.live(id)
     }
 
-    /// The number of known variables.
+    /// The number of known variables. Each definition is that of one of them.
     pub fn vars(&self) -> u64
-        ensures { result ≡ self.now.state.vars }
+        ensures value { result ≡ self.now.state.vars }
+        ensures defined { length self.now.state.definitions ≤ self.now.state.vars }
     {
         self.checker.vars()
     }
@@ -223,10 +224,9 @@ impl Log {
         ensures later { S.faults sink.old ≤ S.faults sink.new }
         ensures fault { IsErrOf result LogError.Fault → Rose (S.faults sink.old) (S.faults sink.new) }
     {
-        self.text.clear();
-        push_line(&mut self.text, &line)?;
+        let bytes = write_line(self.alloc, &line)?;
         self.checker.accept(line)?;
-        if write_all(sink, &self.text).is_err() {
+        if write_all(sink, &bytes).is_err() {
             self.failed = true;
             return Err(LogError::Fault);
         }

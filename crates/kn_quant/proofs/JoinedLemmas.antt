@@ -6,7 +6,7 @@ use Rattle.std.proofs.lemmas.Grind.{take_at_read}
 use Rattle.kn_logic.specs.Constraints.{Bounded}
 use Rattle.kn_diagram.specs.Diagrams.{function_of}
 use Rattle.kn_diagram.specs.Wide.{DependsOn, Ignores}
-use Rattle.kn_diagram.proofs.NodeLemmas.{Keeps-self, Keeps-along, function_of-constant}
+use Rattle.kn_diagram.proofs.Public.{Keeps-self, Keeps-along, function_of-constant}
 use Rattle.kn_quant.specs.Quantified.{some_value}
 use Rattle.kn_quant.specs.Runs.{Function, Join, Quantify, both, joins, whole, Splits, clause_function, AreNarrow}
 use Rattle.kn_quant.specs.Eliminations.{Progress, steps_of, buckets_of, HasClauses, Makes, IsGiven, StopsIn, Takes, IsPiece, ArePieces, functions_of, Gathers, Turns, TurnStops, Concludes}

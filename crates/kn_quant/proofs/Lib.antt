@@ -4,3 +4,7 @@ pub mod JoinedLemmas
 pub mod OrderLemmas
 pub mod MeaningLemmas
 pub mod RunLemmas
+pub mod OneRunLemmas
+pub mod RebuiltLemmas
+pub mod HangLemmas
+pub mod Public

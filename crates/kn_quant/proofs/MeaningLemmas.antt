@@ -5,9 +5,9 @@ use Rattle.std.proofs.lemmas.Bool.{eqb-true, eq-eqb, ne_eqb, cond-true, cond-fal
 use Rattle.kn_logic.specs.Literals.{Literal, has, is_same}
 use Rattle.kn_logic.specs.Constraints.{Bounded}
 use Rattle.kn_logic.specs.Groups.{Gathered, IsGroup, IsCovered, is_among}
-use Rattle.kn_diagram.specs.Diagrams.{is_true_by}
+use Rattle.kn_diagram.specs.Diagrams.{with_value, is_true_by}
 use Rattle.kn_diagram.specs.Wide.{Ignores}
-use Rattle.kn_quant.specs.Quantified.{with_value, some_value}
+use Rattle.kn_quant.specs.Quantified.{some_value}
 use Rattle.kn_quant.specs.Runs.{Function, Step, both, whole, all_whole, Splits, Empties, Runs, clause_function, AgreeBut, CanHold, AgreeAtBorder}
 
 -- all functions are true at some values
@@ -18,7 +18,7 @@ both-true : (a b : Bool) → a ≡ true → b ≡ true → (a && b) ≡ true
 both-true true b x y = y
 both-true false b x y = absurd (true≢false (sym x))
 
-whole-down : (p : Function) (ps : List Function) (w : ℕ → Bool) → whole p ps w ≡ true → AreTrue (p ∷ ps) w
+pub whole-down : (p : Function) (ps : List Function) (w : ℕ → Bool) → whole p ps w ≡ true → AreTrue (p ∷ ps) w
 whole-down p [] w e = (e, tt)
 whole-down p (q ∷ qs) w e = let d = whole-down (both p q) qs w e in let h = and_parts (p w) (q w) d.0 in (h.0, (h.1, d.1))
 
@@ -26,15 +26,15 @@ whole-up : (p : Function) (ps : List Function) (w : ℕ → Bool) → AreTrue (p
 whole-up p [] w h = h.0
 whole-up p (q ∷ qs) w h = whole-up (both p q) qs w (both-true (p w) (q w) h.0 h.1.0, h.1.1)
 
-are-true-append : (xs ys : List Function) (w : ℕ → Bool) → AreTrue xs w → AreTrue ys w → AreTrue (xs ++ ys) w
+pub are-true-append : (xs ys : List Function) (w : ℕ → Bool) → AreTrue xs w → AreTrue ys w → AreTrue (xs ++ ys) w
 are-true-append [] ys w a b = b
 are-true-append (x ∷ xs) ys w a b = (a.0, are-true-append xs ys w a.1 b)
 
-are-true-parts : (xs ys : List Function) (w : ℕ → Bool) → AreTrue (xs ++ ys) w → AreTrue xs w × AreTrue ys w
+pub are-true-parts : (xs ys : List Function) (w : ℕ → Bool) → AreTrue (xs ++ ys) w → AreTrue xs w × AreTrue ys w
 are-true-parts [] ys w h = (tt, h)
 are-true-parts (x ∷ xs) ys w h = let p = are-true-parts xs ys w h.1 in ((h.0, p.0), p.1)
 
-splits-join : (y : ℕ) (ps bucket rest : List Function) (w : ℕ → Bool) → Splits y ps bucket rest → AreTrue bucket w → AreTrue rest w → AreTrue ps w
+pub splits-join : (y : ℕ) (ps bucket rest : List Function) (w : ℕ → Bool) → Splits y ps bucket rest → AreTrue bucket w → AreTrue rest w → AreTrue ps w
 splits-join y [] bucket rest w s a b = tt
 splits-join y (p ∷ ps) bucket rest w (inl (more, e, own, s)) a b = let h = subst (λ z. AreTrue z w) e a in (h.0, splits-join y ps more rest w s h.1 b)
 splits-join y (p ∷ ps) bucket rest w (inr (more, e, own, s)) a b = let h = subst (λ z. AreTrue z w) e b in (h.0, splits-join y ps bucket more w s a h.1)
@@ -46,12 +46,12 @@ splits-parts y (p ∷ ps) bucket rest w (inl (more, e, own, s)) h =
 splits-parts y (p ∷ ps) bucket rest w (inr (more, e, own, s)) h =
     let q = splits-parts y ps bucket more w s h.1 in (q.0, subst (λ z. AreTrue z w) (sym e) (h.0, q.1))
 
-rest-ignores : (y : ℕ) (ps bucket rest : List Function) → Splits y ps bucket rest → AllByRecursion (λ p. Ignores p y) rest
+pub rest-ignores : (y : ℕ) (ps bucket rest : List Function) → Splits y ps bucket rest → AllByRecursion (λ p. Ignores p y) rest
 rest-ignores y [] bucket rest s = subst (AllByRecursion (λ p. Ignores p y)) (sym s.1) tt
 rest-ignores y (p ∷ ps) bucket rest (inl (more, e, own, s)) = rest-ignores y ps more rest s
 rest-ignores y (p ∷ ps) bucket rest (inr (more, e, own, s)) = subst (AllByRecursion (λ q. Ignores q y)) (sym e) (own, rest-ignores y ps bucket more s)
 
-moved : (y : ℕ) (ps : List Function) (w : ℕ → Bool) (b : Bool) → AllByRecursion (λ p. Ignores p y) ps → AreTrue ps w → AreTrue ps (with_value w y b)
+pub moved : (y : ℕ) (ps : List Function) (w : ℕ → Bool) (b : Bool) → AllByRecursion (λ p. Ignores p y) ps → AreTrue ps w → AreTrue ps (with_value w y b)
 moved y [] w b i h = tt
 moved y (p ∷ ps) w b i h = (i.0 w b ∙ h.0, moved y ps w b i.1 h.1)
 
@@ -123,7 +123,7 @@ turn-up y ys pieces next bucket rest steps own v s e (w, a, h) = (back, agree, b
         subst (λ q. AreTrue q back) (sym k.0)
         (are-true-append rest (some_value y (whole b bs) ∷ []) back (kept (b ∷ bs) z) (some b bs (splits-parts y pieces (b ∷ bs) rest w z h).0, tt))
 
-all-whole-down : (ps : List Function) (w : ℕ → Bool) → all_whole ps w ≡ true → AreTrue ps w
+pub all-whole-down : (ps : List Function) (w : ℕ → Bool) → all_whole ps w ≡ true → AreTrue ps w
 all-whole-down [] w e = tt
 all-whole-down (p ∷ ps) w e = whole-down p ps w e
 

@@ -10,9 +10,8 @@ use Rattle.kn_diagram.specs.declared.error.DiagramError.{DiagramError}
 use Rattle.kn_diagram.specs.declared.error.DiagramError.TheVariants as Diagram
 use Rattle.kn_diagram.specs.Diagrams.{Table, IsNode, function_of, Keeps}
 use Rattle.kn_diagram.specs.Traces.{IsRight, AreExplained, Explains}
-use Rattle.kn_diagram.specs.Wide.{IsWide, IsWideAt, IsTopmost, IfWide}
-use Rattle.kn_diagram.proofs.JoinLemmas.{AreExplained-kept, IsRight-kept}
-use Rattle.kn_diagram.proofs.NodeLemmas.{Keeps-self, Keeps-along}
+use Rattle.kn_diagram.specs.Wide.{IsWide, IsWideAt, IfWide}
+use Rattle.kn_diagram.proofs.Public.{AreExplained-kept, IsRight-kept, Keeps-self, Keeps-along}
 use Rattle.kn_quant.specs.declared.stage.Stage.{Stage}
 use Rattle.kn_quant.specs.declared.stage.Stage.TheVariants.{Clause, And, Exists}
 use Rattle.kn_quant.specs.declared.stage.Bucket.{Bucket}
@@ -20,7 +19,7 @@ use Rattle.kn_quant.specs.declared.error.QuantError.{QuantError}
 use Rattle.kn_quant.specs.declared.error.QuantError.TheVariants.{Wide, Memory}
 use Rattle.kn_quant.specs.Quantified.{some_value, entry_of, IsQuantified, AreAccounted, Quantifies}
 use Rattle.kn_quant.specs.Runs.{Function, Step, Join, Quantify, given, AreNarrow, clause_function}
-use Rattle.kn_quant.specs.Eliminations.{Eliminated, IsElimination, Progress, node_of, has_node, IsConjunction, IsQuantification, IsStage, AreStages, AreBuckets, step_of, steps_of, buckets_of, IsClauseAt, IsNoClause, HasClauses, IsProgress, Makes, IsGiven, StopsIn, IfWideStage, error_after, Takes, IsPiece, ArePieces, functions_of}
+use Rattle.kn_quant.specs.Eliminations.{Eliminated, IsElimination, IsThere, Progress, node_of, has_node, IsConjunction, IsQuantification, IsStage, AreStages, AreBuckets, step_of, steps_of, buckets_of, IsClauseAt, IsNoClause, HasClauses, IsProgress, Makes, IsGiven, StopsIn, IfWideStage, error_after, Takes, IsPiece, ArePieces, functions_of}
 use Rattle.kn_quant.proofs.SettleLemmas.{IsQuantified-kept, AreAccounted-kept}
 
 explained-last : (join : Bool → Bool → Bool) (d : Table) (before ms : List Met) (m : Met) → AreExplained join d before (ms ++ m ∷ []) → IsRight join d m
@@ -31,12 +30,12 @@ accounted-last : (d : Table) (variable : ℕ) (halves before ms : List Met) (m :
 accounted-last d variable halves before [] m h = h.0.right
 accounted-last d variable halves before (x ∷ ms) m h = accounted-last d variable halves (before ++ x ∷ []) ms m h.1
 
-conjunction-right : (d : Table) (before : List Stage) (left right node : ℕ) (met : List Met) → IsConjunction d before left right node met
+pub conjunction-right : (d : Table) (before : List Stage) (left right node : ℕ) (met : List Met) → IsConjunction d before left right node met
     → IsRight (λ a b. a && b) d (record { u = left; v = right; w = node })
 conjunction-right d before left right node met c =
     explained-last (λ a b. a && b) d [] c.traced.earlier (record { u = left; v = right; w = node }) c.traced.explained
 
-quantification-right : (d : Table) (before : List Stage) (variable from node : ℕ) (met halves : List Met) → IsQuantification d before variable from node met halves
+pub quantification-right : (d : Table) (before : List Stage) (variable from node : ℕ) (met halves : List Met) → IsQuantification d before variable from node met halves
     → IsQuantified d variable from node
 quantification-right d before variable from node met halves q =
     accounted-last d variable q.traced.halves [] q.traced.earlier (entry_of from node) q.traced.accounted
@@ -54,6 +53,23 @@ node-there d before (s ∷ ss) n h e = by (or_cases (node_of s == n) (has_node s
     by : ((node_of s == n) ≡ true) ⊎ (has_node ss n ≡ true) → (has_node ss n ≡ true → IsNode d n) → IsNode d n
     by (inl t) rest = subst (IsNode d) (eqb-true (node_of s) n t) (stage-node d before s h.0)
     by (inr t) rest = rest t
+
+-- the nodes of the buckets are there
+pub buckets-there : (d : Table) (ss : List Stage) (bs : List Bucket) → AreStages d [] ss → AreBuckets ss bs → AllByRecursion (λ b. IsNode d b.function) bs
+buckets-there d ss [] h a = tt
+buckets-there d ss (b ∷ bs) h a = (node-there d [] ss b.function h a.0, buckets-there d ss bs h a.1)
+
+stage-there : (d : Table) (before : List Stage) (s : Stage) → IsStage d before s → IsThere d s
+stage-there d before (Clause taken node) h = h
+stage-there d before (And left right node met) h =
+    let r = conjunction-right d before left right node met h in (r.u_there, r.v_there, r.w_there)
+stage-there d before (Exists variable from node met halves) h =
+    let r = quantification-right d before variable from node met halves h in (r.u_there, r.w_there)
+
+-- the nodes of the entries are there
+pub stages-there : (d : Table) (before ss : List Stage) → AreStages d before ss → AllByRecursion (IsThere d) ss
+stages-there d before [] h = tt
+stages-there d before (s ∷ ss) h = (stage-there d before s h.0, stages-there d (before ++ s ∷ []) ss h.1)
 
 -- the result's node is there
 pub result-there : (e : Eliminated) → IsElimination e → IsNode e.table e.result
@@ -264,9 +280,9 @@ adds-exists p d variable from node met halves h has k there means traced narrow 
 
 -- the stage behind what was made is wide
 pub stops-next : (p : Progress) (step : Step) (made : ℕ) (e : DiagramError) (error : QuantError) → IsProgress p → made ≡ length p.stages - p.taken → error ≡ error_after made e
-    → IfWide e (λ level. IsWideAt p.table.order (given step) level) → IfWide e (λ level. IsTopmost p.table.order (given step) level) → IfWideStage error (StopsIn p (step ∷ []))
-stops-next p step made Diagram.Memory error h n is w top = subst (λ x. IfWideStage x (StopsIn p (step ∷ []))) (sym is) tt
-stops-next p step made (Diagram.Wide level) error h n is w top =
+    → IfWide e (λ level. IsWideAt p.table.order (given step) level) → IfWideStage error (StopsIn p (step ∷ []))
+stops-next p step made Diagram.Memory error h n is w = subst (λ x. IfWideStage x (StopsIn p (step ∷ []))) (sym is) tt
+stops-next p step made (Diagram.Wide level) error h n is w =
     let nil = append-nil (steps_of p.table p.stages) in
     subst (λ x. IfWideStage x (StopsIn p (step ∷ []))) (sym is) (record {
       front = [];
@@ -276,7 +292,6 @@ stops-next p step made (Diagram.Wide level) error h n is w top =
       count = omega (arith, n, h.count, ap length nil);
       narrow = subst (AreNarrow p.table.order) (sym nil) h.narrow;
       wide = w;
-      topmost = top;
     })
 
 -- a clause that is taken
@@ -354,7 +369,6 @@ stops-later old now xs ys own stage level m s =
       count = s.count ∙ ap (λ z. length z + 1) all;
       narrow = subst (λ o. AreNarrow o (steps_of old.table old.stages ++ (xs ++ s.front))) m.kept.order (subst (AreNarrow now.table.order) all s.narrow);
       wide = subst (λ o. IsWideAt o (given s.last) level) m.kept.order s.wide;
-      topmost = subst (λ o. IsTopmost o (given s.last) level) m.kept.order s.topmost;
     }
 
 pub stops-more : (p : Progress) (xs ys : List Step) (stage level : ℕ) → StopsIn p xs stage level → StopsIn p (xs ++ ys) stage level
@@ -366,7 +380,6 @@ stops-more p xs ys stage level s = record {
   count = s.count;
   narrow = s.narrow;
   wide = s.wide;
-  topmost = s.topmost;
 }
 
 -- what holds of the stage that an error names implies what else

@@ -5,10 +5,11 @@ use Rattle.std.proofs.lemmas.Bool.{eq-eqb, or_left, or_right}
 use Rattle.std.proofs.Math.Seq.{drop-cons}
 use Rattle.kn_logic.specs.Groups.{Gathered, IsGroup, is_among}
 use Rattle.kn_diagram.specs.Diagrams.{function_of}
-use Rattle.kn_diagram.specs.Wide.{IsWideAt, IsTopmost}
+use Rattle.kn_diagram.specs.Wide.{IsWideAt}
 use Rattle.kn_quant.specs.Runs.{Function, Step, given, all_joins, Runs, Begins, order_of, clause_function, AreNarrow, IsFirstWide}
 use Rattle.kn_quant.specs.Eliminations.{Eliminated, Progress, steps_of, buckets_of, HasClauses, IsEliminationOf, StopsIn, ArePieces, functions_of, Gathers, Turns, TurnStops, Concludes, WorkStops}
 use Rattle.kn_quant.proofs.MeaningLemmas.{run-holds, holds-run, run-at-border}
+use Rattle.kn_quant.proofs.OneRunLemmas.{never-wide}
 
 -- What was made, and a run from here on, is a run of the group.
 pub record InTurn (g : Gathered) (p : Progress) (ys pieces : List ℕ) : Type 0 where
@@ -69,7 +70,6 @@ first-wide g p ys pieces steps stage level h s b = record {
   count = s.count;
   narrow = subst (λ o. AreNarrow o (steps_of p.table p.stages ++ s.front)) h.order s.narrow;
   wide = subst (λ o. IsWideAt o (given s.last) level) h.order s.wide;
-  topmost = subst (λ o. IsTopmost o (given s.last) level) h.order s.topmost;
 }
 
 pub turn-first-wide : (g : Gathered) (p : Progress) (y : ℕ) (ys pieces : List ℕ) (stage level : ℕ) → InTurn g p (y ∷ ys) pieces → TurnStops p y pieces stage level → IsFirstWide g stage level
@@ -102,6 +102,12 @@ elimination-of g p e pieces ok h c = record {
         (subst (λ z. Runs g.aux (map clause_function g.taken) (steps_of p.table p.stages ++ all_joins (functions_of p.table pieces)) z (function_of e.table e.result))
         (append-nil (buckets_of p.table p.buckets) ∙ sym c.buckets_are)
         (h.goes_on (all_joins (functions_of p.table pieces)) [] (function_of e.table e.result) (refl, refl, c.function)))
+
+-- no stage of it, and so none of the group, is wide
+pub elimination-never : (g : Gathered) (e : Eliminated) → IsEliminationOf g e → (stage level : ℕ) → IsFirstWide g stage level → ⊥
+elimination-never g e h stage level =
+    never-wide g (steps_of e.table e.stages) (buckets_of e.table e.buckets) (function_of e.table e.result) stage level h.run
+    (subst (λ o. AreNarrow o (steps_of e.table e.stages)) h.order h.narrow)
 
 -- the variable whose turn it is
 pub in-turn-at : (g : Gathered) (p : Progress) (pieces : List ℕ) (i y : ℕ) → i < length g.aux → y ≡ slice_index_or g.aux i 0 → InTurn g p (drop i g.aux) pieces

@@ -4,11 +4,10 @@ use Rattle.std.specs.Option.{is_some}
 use Rattle.std.proofs.lemmas.List.{append-nil}
 use Rattle.std.proofs.lemmas.Bool.{eqb-true, eq-eqb, ne_eqb, cond-true, cond-false, and_parts}
 use Rattle.kn_diagram.specs.declared.trace.Met.{Met}
-use Rattle.kn_diagram.specs.Diagrams.{Table, IsNode, function_of, depth_of, high_of, low_of, IsTable, IsKept, Keeps, IsBranch, AgreeFrom, depth_in}
+use Rattle.kn_diagram.specs.Diagrams.{with_value, Table, IsNode, function_of, depth_of, high_of, low_of, IsTable, IsKept, Keeps, IsBranch, AgreeFrom, depth_in}
 use Rattle.kn_diagram.specs.Traces.{found, has_pair, AreExplained, Gains}
-use Rattle.kn_diagram.proofs.NodeLemmas.{Keeps-along, depth_in-slice_index, slice_index-depth_in, function_of-below}
-use Rattle.kn_diagram.proofs.JoinLemmas.{AreExplained-kept, found-more, found-other, found-own, has_pair-more}
-use Rattle.kn_quant.specs.Quantified.{with_value, some_value, entry_of, IsQuantified, IsAccounted, AreAccounted, Settles, Quantifies}
+use Rattle.kn_diagram.proofs.Public.{Keeps-along, depth_in-slice_index, slice_index-depth_in, function_of-below, AreExplained-kept, found-more, found-other, found-own, has_pair-more}
+use Rattle.kn_quant.specs.Quantified.{some_value, entry_of, IsQuantified, IsAccounted, AreAccounted, Settles, Quantifies}
 
 pub IsQuantified-kept : (old new : Table) (variable u w : ℕ) → Keeps old new → IsQuantified old variable u w → IsQuantified new variable u w
 IsQuantified-kept old new variable u w k r =

@@ -8,7 +8,7 @@ use Rattle.kn_diagram.specs.declared.error.DiagramError.{DiagramError}
 use Rattle.kn_diagram.specs.declared.error.DiagramError.TheVariants as Diagram
 use Rattle.kn_diagram.specs.Diagrams.{Table, IsNode, function_of, Keeps, depth_in}
 use Rattle.kn_diagram.specs.Traces.{Explains}
-use Rattle.kn_diagram.specs.Wide.{IsWideAt, IsTopmost}
+use Rattle.kn_diagram.specs.Wide.{IsWideAt}
 use Rattle.kn_quant.specs.declared.stage.Stage.{Stage}
 use Rattle.kn_quant.specs.declared.stage.Stage.TheVariants.{Clause, And, Exists}
 use Rattle.kn_quant.specs.declared.stage.Bucket.{Bucket}
@@ -70,6 +70,12 @@ AreStages d before (s ∷ ss) = IsStage d before s × AreStages d (before ++ s �
 -- the bucket's function is the node of an entry
 abbrev pub AreBuckets : List Stage → List Bucket → Type 0
 AreBuckets stages buckets = AllByRecursion (λ b. has_node stages b.function ≡ true) buckets
+
+-- the nodes of an entry are nodes of the diagrams
+abbrev pub IsThere : Table → Stage → Type 0
+IsThere d (Clause taken node) = IsNode d node
+IsThere d (And left right node met) = IsNode d left × IsNode d right × IsNode d node
+IsThere d (Exists variable from node met halves) = IsNode d from × IsNode d node
 
 -- What the type of an elimination keeps.
 pub record IsElimination (e : Eliminated) : Type 0 where
@@ -158,7 +164,6 @@ pub record StopsIn (p : Progress) (steps : List Step) (stage level : ℕ) : Type
   pub count : stage ≡ length (steps_of p.table p.stages ++ front) + 1
   pub narrow : AreNarrow p.table.order (steps_of p.table p.stages ++ front)
   pub wide : IsWideAt p.table.order (given last) level
-  pub topmost : IsTopmost p.table.order (given last) level
 
 -- nodes of entries, as pieces
 abbrev pub IsPiece : Progress → ℕ → Type 0

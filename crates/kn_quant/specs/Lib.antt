@@ -1,3 +1,4 @@
 pub mod Quantified
 pub mod Runs
 pub mod Eliminations
+pub mod Rebuilt

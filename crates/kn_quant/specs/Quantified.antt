@@ -1,12 +1,8 @@
 -- "For some value of a variable": of functions, and of the nodes of a table.
-use Rattle.std.specs.Prelude.{ℕ, ◌≡◌, ◌<◌, ◌≤◌, ◌==◌, ◌||◌, Bool, true, false, if◌then◌else◌, List, [], ◌∷◌, ◌++◌, Some, None}
+use Rattle.std.specs.Prelude.{ℕ, ◌≡◌, ◌<◌, ◌≤◌, ◌||◌, Bool, true, false, List, [], ◌∷◌, ◌++◌, Some, None}
 use Rattle.kn_diagram.specs.declared.trace.Met.{Met}
-use Rattle.kn_diagram.specs.Diagrams.{Table, IsNode, function_of, depth_of, high_of, low_of, depth_in}
+use Rattle.kn_diagram.specs.Diagrams.{Table, IsNode, with_value, function_of, depth_of, high_of, low_of, depth_in}
 use Rattle.kn_diagram.specs.Traces.{found, has_pair, AreExplained}
-
--- the same values, but this one for this variable
-abbrev pub with_value : (ℕ → Bool) → ℕ → Bool → ℕ → Bool
-with_value v variable b = λ x. if x == variable then b else v x
 
 -- whether a function is true for some value of a variable
 abbrev pub some_value : ℕ → ((ℕ → Bool) → Bool) → (ℕ → Bool) → Bool

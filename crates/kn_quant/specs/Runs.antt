@@ -5,7 +5,7 @@ use Rattle.std.specs.List.{list_any, AllByRecursion}
 use Rattle.kn_logic.specs.Constraints.{Bounded}
 use Rattle.kn_logic.specs.Groups.{Gathered, is_among}
 use Rattle.kn_diagram.specs.Diagrams.{is_true_by}
-use Rattle.kn_diagram.specs.Wide.{DependsOn, Ignores, IsWideAt, IsTopmost, IsWide}
+use Rattle.kn_diagram.specs.Wide.{DependsOn, Ignores, IsWideAt, IsWide}
 use Rattle.kn_quant.specs.Quantified.{some_value}
 
 abbrev pub Function : Type 0
@@ -93,8 +93,8 @@ clause_function c v = list_any (is_true_by v) c.lits
 abbrev pub AreNarrow : List ℕ → List Step → Type 0
 AreNarrow order steps = AllByRecursion (λ s. IsWide order (given s) → ⊥) steps
 
--- A run of the group comes to a wide stage, the first that is wide. This variable is the topmost where it
--- is wide. Stages count from 1.
+-- A run of the group comes to a wide stage, the first that is wide. It is wide at this variable. Stages
+-- count from 1.
 pub record IsFirstWide (g : Gathered) (stage level : ℕ) : Type 0 where
   pub earlier : List Step
   pub last : Step
@@ -102,7 +102,6 @@ pub record IsFirstWide (g : Gathered) (stage level : ℕ) : Type 0 where
   pub count : stage ≡ length earlier + 1
   pub narrow : AreNarrow (order_of g) earlier
   pub wide : IsWideAt (order_of g) (given last) level
-  pub topmost : IsTopmost (order_of g) (given last) level
 
 -- Two assignments of values differ at these variables alone.
 abbrev pub AgreeBut : List ℕ → (ℕ → Bool) → (ℕ → Bool) → Type 0

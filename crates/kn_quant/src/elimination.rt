@@ -1,6 +1,6 @@
-ghost use Rattle.std.specs.Prelude.{◌≡◌};
+ghost use Rattle.std.specs.Prelude.{◌≡◌, All};
 ghost use Rattle.kn_diagram.specs.Diagrams.{IsNode};
-ghost use Rattle.kn_quant.specs.Eliminations.{IsElimination};
+ghost use Rattle.kn_quant.specs.Eliminations.{IsElimination, IsThere};
 
 use crate::{Bucket, Stage};
 use kn_diagram::{Diagrams, Node};
@@ -55,6 +55,7 @@ impl Elimination {
     /// The entries of the taken clauses, then the stages, each in order.
     pub fn stages(&self) -> &[Stage]
         ensures value { result.now ≡ self.now.stages }
+        ensures there { All (IsThere self.now.table) result.now }
         ensures elimination { IsElimination self.now }
     {
         &self.stages
@@ -63,6 +64,7 @@ impl Elimination {
     /// The buckets that were not empty, in order.
     pub fn buckets(&self) -> &[Bucket]
         ensures value { result.now ≡ self.now.buckets }
+        ensures there { All (λ b. IsNode self.now.table b.function) result.now }
         ensures elimination { IsElimination self.now }
     {
         &self.buckets

@@ -7,6 +7,7 @@
 
 mod elimination;
 mod error;
+mod laws;
 mod quantify;
 mod run;
 mod stage;
@@ -16,6 +17,7 @@ mod work;
 
 pub use elimination::Elimination;
 pub use error::QuantError;
+pub use laws::{a_group_has_one_run, rebuilt_values_hold, small_groups_are_narrow};
 pub use quantify::exists;
 pub use run::eliminate;
 pub use stage::{Bucket, Stage};

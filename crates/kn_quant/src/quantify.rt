@@ -1,7 +1,7 @@
 ghost use Rattle.std.specs.Prelude.{ℕ, ◌≡◌, ◌<◌, ◌≤◌, ◌||◌, ◌++◌, Bool, [], length, OnOk, OnErr, IfOk, IfErr};
 ghost use Rattle.kn_diagram.specs.Diagrams.{IsNode, IsBranch, Keeps, depth_in, depth_of, function_of};
 ghost use Rattle.kn_diagram.specs.Traces.{AreExplained};
-ghost use Rattle.kn_diagram.specs.Wide.{IfWide, IsWideAt, IsTopmost, IsWide};
+ghost use Rattle.kn_diagram.specs.Wide.{IfWide, IsWideAt, IsWide};
 ghost use Rattle.kn_quant.specs.Quantified.{some_value, AreAccounted, Quantifies, Settles};
 
 use kn_diagram::{DiagramError, Diagrams, Memo, Node, Trace};
@@ -26,7 +26,6 @@ pub fn exists(
     ensures traced { IfOk result (λ w. Quantifies d.new var trace.old trace.new halves.old halves.new f w) }
     ensures err { OnErr result ((trace.new ≡ trace.old) × (halves.new ≡ halves.old)) }
     ensures wide { IfErr result (λ e. IfWide e (λ level. IsWideAt d.old.order (some_value var (function_of d.old f)) level)) }
-    ensures topmost { IfErr result (λ e. IfWide e (λ level. IsTopmost d.old.order (some_value var (function_of d.old f)) level)) }
     ensures narrow { IfOk result (λ w. IsWide d.new.order (function_of d.new w) → ⊥) }
 {
     let alloc = d.allocator();

@@ -18,6 +18,7 @@ use std::alloc::Global;
 pub fn eliminate(alloc: Global, group: &Group) -> Result<Elimination, QuantError>
     ensures run { IfOk result (λ e. IsEliminationOf group.now e) }
     ensures wide { IfErr result (λ e. IfWideStage e (IsFirstWide group.now)) }
+    ensures never { IfOk result (λ e. (stage level : ℕ) → IsFirstWide group.now stage level → ⊥) }
 {
     let order = order_of(alloc, group)?;
     let mut work = Work::new(alloc, Diagrams::new(alloc, &order)?);

@@ -5,7 +5,7 @@ use Rattle.kn_logic.specs.Formulas.{Problem, IsFormula, IsUnsatisfiable}
 use Rattle.kn_text.specs.Lines.{Line as TextLine, content_from, content_of, lines_of, words_of}
 use Rattle.kn_lines.specs.Lines.{SpellsWords}
 use Rattle.kn_lines.specs.declared.line.Line.{Line}
-use Rattle.kn_lines.proofs.Spelling.{one_spelling}
+use Rattle.kn_lines.proofs.Public.{one_spelling}
 use Rattle.kn_rules.specs.States.{ProofState, start}
 use Rattle.kn_rules.specs.Steps.{step}
 use Rattle.kn_rules.specs.declared.whole.Checked.{Checked}

@@ -1,13 +1,17 @@
-pub mod Truth
-pub mod Deleting
-pub mod MarkLemmas
-pub mod Nodes
-pub mod DemandLemmas
-pub mod Different
-pub mod Extending
-pub mod Defining
-pub mod Units
-pub mod Ready
-pub mod Sharing
-pub mod Sound
-pub mod Faults
+mod Truth
+mod Deleting
+mod MarkLemmas
+mod Nodes
+mod DemandLemmas
+mod Different
+mod Extending
+mod Defining
+mod Units
+mod Ready
+mod Sharing
+mod Sound
+mod Faults
+mod Stepping
+mod Codes
+mod Few
+pub mod Public

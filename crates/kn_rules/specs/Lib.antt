@@ -1,7 +1,9 @@
 pub mod States
 pub mod Grids
 pub mod Steps
+pub mod Stepping
 pub mod Proofs
+pub mod Searching
 pub mod Marks
 pub mod Demands
 pub mod Sharing

@@ -136,9 +136,10 @@ impl Checker {
         if self.refuted { Ok(()) } else { Err(9) }
     }
 
-    /// The number of known variables.
+    /// The number of known variables. Each definition is that of one of them.
     pub fn vars(&self) -> u64
-        ensures { result ≡ self.now.vars }
+        ensures value { result ≡ self.now.vars }
+        ensures defined { length self.now.definitions ≤ self.now.vars }
     {
         self.vars
     }

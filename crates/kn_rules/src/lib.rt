@@ -3,8 +3,9 @@
 //! reads off which ids are live. A `Trail` is the list of literals that a run of hints takes to be true, of
 //! use to a search too. The definitions stand in `specs/`: what ids stand for (`States`), which variables
 //! stand for the nodes of a count's grid (`Grids`), what a line asks of a state and makes of it (`Steps`),
-//! whole proofs and their first fault (`Proofs`). `Feeding` and `Checking` have the words of the contracts,
-//! `Marks`, `Restoring`, `Demands` and `Sharing` what the code keeps.
+//! lines one after another (`Stepping`), whole proofs and their first fault (`Proofs`), and the lines that a
+//! search may add (`Searching`), of which there are few by law. `Feeding` and `Checking` have the words of
+//! the contracts, `Marks`, `Restoring`, `Demands` and `Sharing` what the code keeps.
 #![tactic(auto)]
 
 mod checker;
@@ -25,7 +26,9 @@ mod whole;
 pub use checker::{Checker, FeedError};
 pub use definition::Definition;
 pub use given::{Given, Origin};
-pub use laws::{never_both, proof_refutes};
+pub use laws::{
+    definitions_are_kept, never_both, proof_refutes, searches_go_on, searches_learn_few,
+};
 pub use trail::Trail;
 pub use whole::{Checked, check};
 

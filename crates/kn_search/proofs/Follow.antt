@@ -16,30 +16,11 @@ use Rattle.kn_rules.specs.declared.given.Given.{Given}
 use Rattle.kn_rules.specs.declared.given.Origin.{Origin}
 use Rattle.kn_rules.specs.States.{ProofState, given_at, live_at}
 use Rattle.kn_rules.specs.Steps.{are_known, hinted, is_conflict, with_clause, if_conflict, follow}
+use Rattle.kn_rules.proofs.Public.{live_at-grows}
 use Rattle.kn_search.specs.declared.trail.Entry.{Entry}
 use Rattle.kn_search.specs.Trails.{literals, decisions, reason_behind, reasons, IsForced, Follows, IsConflict, refuted_decisions}
 
 -- more is given
-get-grows : (given more : List Given) (k : ℕ) (entry : Given) → slice_get given k ≡ Some entry → slice_get (given ++ more) k ≡ Some entry
-get-grows [] more k entry e = absurd cc
-get-grows (x ∷ given) more zero entry e = e
-get-grows (x ∷ given) more (suc k) entry e = get-grows given more k entry e
-
-live-in : (o p : Option Given) (c : Bounded) → ((entry : Given) → o ≡ Some entry → p ≡ Some entry) → option_and_then (λ entry. entry.live) o ≡ Some c → option_and_then (λ entry. entry.live) p ≡ Some c
-live-in None p c h e = absurd cc
-live-in (Some entry) p c h e = subst (λ (q : Option Given). option_and_then (λ entry. entry.live) q ≡ Some c) (sym (h entry refl)) e
-
-at-grows : (b : Bool) (o p : Option Given) (entry : Given) → ((x : Given) → o ≡ Some x → p ≡ Some x) → cond b None o ≡ Some entry → cond b None p ≡ Some entry
-at-grows true o p entry h e = absurd cc
-at-grows false o p entry h e = h entry e
-
--- a live id stays live
-pub live_at-grows : (given more : List Given) (id : ℕ) (c : Bounded) → live_at given id ≡ Some c → live_at (given ++ more) id ≡ Some c
-live_at-grows given more id c e =
-    live-in (given_at given id) (given_at (given ++ more) id) c
-    (λ entry at. at-grows (eqb id 0) (slice_get given (id - 1)) (slice_get (given ++ more) (id - 1)) entry (get-grows given more (id - 1)) at)
-    e
-
 IsForced-grows : (given more : List Given) (before : List Literal) (l : Literal) (reason : Option ℕ) → IsForced given before l reason → IsForced (given ++ more) before l reason
 IsForced-grows given more before l None h = tt
 IsForced-grows given more before l (Some id) (c, live, forces) = (c, live_at-grows given more id c live, forces)

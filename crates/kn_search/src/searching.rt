@@ -26,7 +26,7 @@ pub fn search<S: Sink>(
     requires fresh { log.old.state ≡ start f.now }
     requires whole { log.old.failed ≡ false }
     ensures ends { IfOk result (λ o. Ends f.now options.now.conflicts log.old log.new (S.written sink.old) (S.written sink.new) o) }
-    ensures error { IfErr result (λ e. EndsNot log.old log.new (S.written sink.old) (S.written sink.new) e) }
+    ensures error { IfErr result (λ e. EndsNot options.now.conflicts log.old log.new (S.written sink.old) (S.written sink.new) e) }
     ensures later { S.faults sink.old ≤ S.faults sink.new }
     ensures fault { IsErrOf result SearchError.WriteFault → Rose (S.faults sink.old) (S.faults sink.new) }
 {

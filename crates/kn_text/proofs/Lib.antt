@@ -1,4 +1,5 @@
-pub mod Cuts
-pub mod Values
-pub mod Written
-pub mod Spelled
+mod Cuts
+mod Values
+mod Written
+mod Spelled
+pub mod Public

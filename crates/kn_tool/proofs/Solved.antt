@@ -1,17 +1,17 @@
 -- What was logged of a formula is a proof text as far as it goes, whatever the search answers.
-use Rattle.std.proofs.Common.{◌≡◌, ◌≤◌, ◌<◌, ◌+◌, ◌^◌, ◌++◌, ◌∷◌, Bool, true, List, ℕ, [], length, Option, refl, sym, ap, ◌∙◌, subst, inl, inr, append_assoc, append-nil, arith}
+use Rattle.std.proofs.Common.{◌≡◌, ◌≤◌, ◌<◌, ◌+◌, ◌^◌, ◌++◌, ◌∷◌, Bool, true, List, ℕ, [], length, Option, refl, sym, ap, ◌∙◌, subst, inl, inr, append-nil, arith}
 use Rattle.kn_bytes.specs.Outside.{Rose, Got, GotPrefix}
 use Rattle.kn_bytes.proofs.Joined.{Got-append, Got-nil, GotPrefix-from_Got, GotPrefix-append}
 use Rattle.kn_logic.specs.Formulas.{Problem, IsFormula, Satisfies}
 use Rattle.kn_lines.specs.declared.line.Line.{Line}
 use Rattle.kn_rules.specs.States.{ProofState, start}
 use Rattle.kn_rules.specs.Proofs.{IsProof}
-use Rattle.kn_rules.proofs.Sound.{proof-refutes}
+use Rattle.kn_rules.specs.Stepping.{StepsBy, learned_in}
+use Rattle.kn_rules.proofs.Public.{proof-refutes}
 use Rattle.kn_log.specs.Logs.{Logged, header_of, line_bytes, fresh}
-use Rattle.kn_log.specs.Written.{StepsBy, AreSpelled, lines_bytes, learned_in, learned_count}
-use Rattle.kn_log.proofs.Text.{written_steps, written_proof, written_learned}
-use Rattle.kn_log.proofs.Added.{lines_bytes-append}
-use Rattle.kn_search.specs.Outcomes.{Learns, Breaks, Tells, Ends, EndsNot}
+use Rattle.kn_log.specs.Written.{AreSpelled, lines_bytes, learned_count}
+use Rattle.kn_log.proofs.Public.{written_steps, written_proof, written_learned, Breaks-front}
+use Rattle.kn_search.specs.Outcomes.{Tells, Ends, EndsNot}
 use Rattle.kn_search.specs.declared.outcome.Outcome.{Outcome}
 use Rattle.kn_search.specs.declared.outcome.Outcome.TheVariants as outcome
 use Rattle.kn_search.specs.declared.outcome.SearchError.{SearchError}
@@ -60,45 +60,40 @@ pub record IsBehind (f : Problem) (p : Change Sink) (old : Logged) (mid : Option
   pub begun : old.state ≡ start f
   pub header : Got p.old.written mid (line_bytes (header_of f))
 
-pub memory_ends : (f : Problem) (p : Change Sink) (old new : Logged) (mid : Option (List ℕ)) → IsBehind f p old mid → EndsNot old new mid p.new.written failure.Memory → GotSteps f p
-memory_ends f p old new mid h (learned, learns, whole) =
-    let got : Got p.old.written p.new.written (all_bytes f learns.lines) =
-    Got-append p.old.written mid p.new.written (line_bytes (header_of f)) (lines_bytes learns.lines) h.header learns.got in (
-      all_bytes f learns.lines,
-      stepping f learns.lines old.state new.state h.listed h.begun learns.steps learns.spelled,
-      (all_bytes f learns.lines, [], sym (append-nil (all_bytes f learns.lines)), got),
+pub memory_ends : (budget : ℕ) (f : Problem) (p : Change Sink) (old new : Logged) (mid : Option (List ℕ)) → IsBehind f p old mid → EndsNot budget old new mid p.new.written failure.Memory → GotSteps f p
+memory_ends budget f p old new mid h (lines, within, adds) =
+    let got : Got p.old.written p.new.written (all_bytes f lines) =
+    Got-append p.old.written mid p.new.written (line_bytes (header_of f)) (lines_bytes lines) h.header adds.got in (
+      all_bytes f lines,
+      stepping f lines old.state new.state h.listed h.begun adds.steps adds.spelled,
+      (all_bytes f lines, [], sym (append-nil (all_bytes f lines)), got),
     )
 
-pub fault_ends : (f : Problem) (p : Change Sink) (old new : Logged) (mid : Option (List ℕ)) → IsBehind f p old mid → EndsNot old new mid p.new.written failure.WriteFault → GotSteps f p
-fault_ends f p old new mid h (breaks, failed) =
-    let lines = breaks.lines ++ breaks.last ∷ [] in
-    let front = Got-append p.old.written mid breaks.got.0 (line_bytes (header_of f)) (lines_bytes breaks.lines) h.header breaks.got.1 in
-    let whole = GotPrefix-append p.old.written breaks.got.0 p.new.written (line_bytes (header_of f) ++ lines_bytes breaks.lines) (line_bytes breaks.last) front breaks.got.2 in
-    let is : (line_bytes (header_of f) ++ lines_bytes breaks.lines) ++ line_bytes breaks.last ≡ all_bytes f lines =
-    append_assoc (line_bytes (header_of f)) (lines_bytes breaks.lines) (line_bytes breaks.last)
-    ∙ ap (λ bytes. line_bytes (header_of f) ++ bytes) (ap (λ bytes. lines_bytes breaks.lines ++ bytes) (sym (append-nil (line_bytes breaks.last))) ∙ sym (lines_bytes-append breaks.lines (breaks.last ∷ []))) in (
-      all_bytes f lines,
-      stepping f lines old.state new.state h.listed h.begun breaks.steps breaks.spelled,
-      subst (λ bytes. GotPrefix p.old.written p.new.written bytes) is whole,
+pub fault_ends : (budget : ℕ) (f : Problem) (p : Change Sink) (old new : Logged) (mid : Option (List ℕ)) → IsBehind f p old mid → EndsNot budget old new mid p.new.written failure.WriteFault → GotSteps f p
+fault_ends budget f p old new mid h (lines, last, within, breaks) =
+    let all = lines ++ last ∷ [] in (
+      all_bytes f all,
+      stepping f all old.state new.state h.listed h.begun breaks.steps breaks.spelled,
+      GotPrefix-append p.old.written mid p.new.written (line_bytes (header_of f)) (lines_bytes all) h.header (Breaks-front lines last old new mid p.new.written breaks),
     )
 
 -- what an outcome says of the bytes
-says : (budget : ℕ) (f : Problem) (old new : Logged) (mid w : Option (List ℕ)) (o : Outcome) → IsListed f → old.state ≡ start f → (e : Ends f budget old new mid w o) → Tells f budget e.learned new.state o → OutcomeSays budget f (all_bytes f e.learns.lines) o
+says : (budget : ℕ) (f : Problem) (old new : Logged) (mid w : Option (List ℕ)) (o : Outcome) → IsListed f → old.state ≡ start f → (e : Ends f budget old new mid w o) → Tells f budget (learned_in e.lines) new.state o → OutcomeSays budget f (all_bytes f e.lines) o
 says budget f old new mid w (outcome.Model values) h is e told = told
 says budget f old new mid w outcome.Refuted h is e told =
-    written_proof f e.learns.lines new.state (vars_fit f.vars h.vars) h.count (subst (λ (o : ProofState). StepsBy o e.learns.lines new.state) is e.learns.steps) e.learns.spelled told
+    written_proof f e.lines new.state (vars_fit f.vars h.vars) h.count (subst (λ (o : ProofState). StepsBy o e.lines new.state) is e.adds.steps) e.adds.spelled told
 says budget f old new mid w (outcome.Spent learned) h is e told =
-    (told.0, written_learned f e.learns.lines (vars_fit f.vars h.vars) h.count e.learns.spelled ∙ e.learns.count ∙ told.1 ∙ sym told.0)
+    (told.0, written_learned f e.lines (vars_fit f.vars h.vars) h.count e.adds.spelled ∙ told.1 ∙ sym told.0)
 
 pub outcome_found : (budget : ℕ) (f : Problem) (p : Change Sink) (old new : Logged) (mid : Option (List ℕ)) (o : Outcome) → IsBehind f p old mid → Ends f budget old new mid p.new.written o → Finds budget f p o
 outcome_found budget f p old new mid o h e =
-    let got : Got p.old.written p.new.written (all_bytes f e.learns.lines) =
-    Got-append p.old.written mid p.new.written (line_bytes (header_of f)) (lines_bytes e.learns.lines) h.header e.learns.got in
-    let count : learned_count (all_bytes f e.learns.lines) ≡ e.learned =
-    written_learned f e.learns.lines (vars_fit f.vars h.listed.vars) h.listed.count e.learns.spelled ∙ e.learns.count in (
-      all_bytes f e.learns.lines,
+    let got : Got p.old.written p.new.written (all_bytes f e.lines) =
+    Got-append p.old.written mid p.new.written (line_bytes (header_of f)) (lines_bytes e.lines) h.header e.adds.got in
+    let count : learned_count (all_bytes f e.lines) ≡ learned_in e.lines =
+    written_learned f e.lines (vars_fit f.vars h.listed.vars) h.listed.count e.adds.spelled in (
+      all_bytes f e.lines,
       record {
-        steps = stepping f e.learns.lines old.state new.state h.listed h.begun e.learns.steps e.learns.spelled;
+        steps = stepping f e.lines old.state new.state h.listed h.begun e.adds.steps e.adds.spelled;
         got = got;
         within = subst (λ n. n ≤ budget) (sym count) e.within;
       },

@@ -2,7 +2,7 @@ use Rattle.std.proofs.Common.{ℕ, ◌≡◌, ◌<◌, ◌≤◌, ◌⊎◌, inl
 use Rattle.std.proofs.lemmas.Bool.{cases_lt}
 use Rattle.kn_diagram.specs.Diagrams.{depth_of, depth_in}
 use Rattle.kn_diagram.specs.Traces.{found}
-use Rattle.kn_diagram.proofs.NodeLemmas.{Keeps-along, depth_of-constant}
+use Rattle.kn_diagram.proofs.Public.{Keeps-along, depth_of-constant}
 use Rattle.kn_quant.specs.Quantified.{Settles}
 use Rattle.kn_quant.proofs.SettleLemmas.{settles-known, settles-below, settles-own, settles-above}
 use Rattle.kn_quant.proofs.quantify.+settle.Goals as goal
@@ -17,7 +17,7 @@ returns-in-Some-clause-settled t c =
 pub returns-then-place-own-clause-settled : goal.returns-then-place-own-clause-settled
 returns-then-place-own-clause-settled t c =
     let none : found c.args.memo.now c.args.u c.args.u ≡ None = search rules in
-    subst (λ after. Settles c.args.d.now c.args.var c.args.memo.now after c.args.joined.now c.args.u c.args.u) (sym c.in_ok-insert.ensures)
+    subst (λ after. Settles c.args.d.now c.args.var c.args.memo.now after c.args.joined.now c.args.u c.args.u) (sym c.in_ok-insert.ensures.ok)
     (settles-below c.args.d.now c.args.var c.args.memo.now c.args.joined.now c.args.u c.depth-own.ensures.table c.requires.there
     (omega (arith, c.depth-own.ensures.value, c.requires.place)) c.requires.explained c.requires.accounted none)
 
@@ -31,7 +31,7 @@ parts_of-above-requires-clause-two t c = by (cases_lt c.args.u 2)
 pub returns-then-place-own-2-clause-settled : goal.returns-then-place-own-2-clause-settled
 returns-then-place-own-2-clause-settled t c =
     let none : found c.args.memo.now c.args.u c.args.u ≡ None = search rules in
-    subst (λ after. Settles c.or_by.new.self c.args.var c.args.memo.now after c.or_by.new.memo c.args.u c.in_ok-w.w) (sym c.in_ok-insert-2.ensures)
+    subst (λ after. Settles c.or_by.new.self c.args.var c.args.memo.now after c.or_by.new.memo c.args.u c.in_ok-w.w) (sym c.in_ok-insert-2.ensures.ok)
     (settles-own c.args.d.now c.or_by.new.self c.args.var c.args.memo.now c.args.joined.now c.or_by.new.memo c.args.u c.parts_of-above.result.0 c.parts_of-above.result.1 c.parts_of-above.result.2
     c.in_ok-w.w c.depth-own.ensures.table c.requires.there c.parts_of-above.ensures (omega (arith, c.depth-own.ensures.value, c.requires.place)) c.requires.accounted none
     c.or_by.ensures.kept c.in_ok-w.ensures.joined)
@@ -53,7 +53,7 @@ returns-clause-settled t c =
     let none : found c.args.memo.now c.args.u c.args.u ≡ None = search rules in
     let less : depth_of c.args.d.now c.args.u < depth_in c.args.d.now.order c.args.var =
     above (depth_of c.args.d.now c.args.u) (depth_in c.args.d.now.order c.args.var) c.depth-own.result c.args.place c.depth-own.ensures.value c.requires.place c.if-place-own.false c.if-place-own-2.false in
-    subst (λ after. Settles c.make.new.self c.args.var c.args.memo.now after c.settle-2.new.joined c.args.u c.in_ok-w-2.w) (sym c.in_ok-insert-3.ensures)
+    subst (λ after. Settles c.make.new.self c.args.var c.args.memo.now after c.settle-2.new.joined c.args.u c.in_ok-w-2.w) (sym c.in_ok-insert-3.ensures.ok)
     (settles-above c.args.d.now c.settle.new.d c.settle-2.new.d c.make.new.self c.args.var c.args.memo.now c.settle.new.memo c.settle-2.new.memo c.settle.new.joined c.settle-2.new.joined
     c.args.u c.parts_of-above.result.0 c.parts_of-above.result.1 c.parts_of-above.result.2 c.in_ok-high.high c.in_ok-low.low c.in_ok-w-2.w c.requires.there c.parts_of-above.ensures less
     c.settle.ensures.kept c.in_ok-high.ensures.settled c.settle-2.ensures.kept c.in_ok-low.ensures.settled c.make.ensures.kept c.in_ok-w-2.ensures.node c.in_ok-w-2.ensures.depth

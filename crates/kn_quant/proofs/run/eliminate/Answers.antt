@@ -6,7 +6,7 @@ use Rattle.kn_quant.specs.Runs.{order_of, IsFirstWide}
 use Rattle.kn_quant.specs.Eliminations.{AreInOrder, Gathers, TurnStops, WorkStops, Concludes}
 use Rattle.kn_quant.proofs.ProgressLemmas.{if-wide-stage}
 use Rattle.kn_quant.proofs.OrderLemmas.{all-in-order, aux-within}
-use Rattle.kn_quant.proofs.RunLemmas.{in-turn-first, in-turn-at, in-turn-next, in-turn-last, at-among, turn-first-wide, conclude-first-wide, elimination-of}
+use Rattle.kn_quant.proofs.RunLemmas.{in-turn-first, in-turn-at, in-turn-next, in-turn-last, at-among, turn-first-wide, conclude-first-wide, elimination-of, elimination-never}
 use Rattle.kn_quant.proofs.run.eliminate.Goals as goal
 
 pub take_all-requires-clause-within : goal.take_all-requires-clause-within
@@ -65,3 +65,7 @@ returns-clause-wide c =
     (in-turn-last c.args.group.now c.loop-var.work c.loop-var.pieces.items c.loop-var.var-index past c.loop-var.invariant)
     (subst (λ ps. WorkStops c.loop-var.work ps stage level) c.deref-2.ensures.value s)) k)
     c.conclude.ensures.wide
+
+pub returns-clause-never : goal.returns-clause-never
+returns-clause-never c =
+    IfOk-weaker c.conclude.result _ _ (λ e k. elimination-never c.args.group.now e k) (returns-clause-run c)

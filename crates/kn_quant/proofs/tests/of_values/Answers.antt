@@ -1,4 +1,4 @@
-use Rattle.kn_diagram.proofs.NodeLemmas.{Keeps-along}
+use Rattle.kn_diagram.proofs.Public.{Keeps-along}
 use Rattle.kn_quant.proofs.tests.of_values.Goals as goal
 
 pub returns-in_err-node-clause-kept : goal.returns-in_err-node-clause-kept

@@ -1,4 +1,4 @@
-use Rattle.kn_diagram.proofs.NodeLemmas.{Keeps-along}
+use Rattle.kn_diagram.proofs.Public.{Keeps-along}
 use Rattle.kn_quant.proofs.tests.with_value.Goals as goal
 
 pub returns-clause-kept : goal.returns-clause-kept

@@ -27,7 +27,7 @@ returns-in-Ok-search-clause-found g c =
 pub returns-in-Err-Memory-search-clause-err : goal.returns-in-Err-Memory-search-clause-err
 returns-in-Err-Memory-search-clause-err g c =
     let ends = c.in-Err-Memory-search.ensures.error in
-    inr (memory_ends c.args.f.now (sink_change g.P.Sink.written g.P.Sink.faults c.args.proof.now c.search.new.sink) c.in-Ok.log c.search.new.log _
+    inr (memory_ends c.args.options.conflicts c.args.f.now (sink_change g.P.Sink.written g.P.Sink.faults c.args.proof.now c.search.new.sink) c.in-Ok.log c.search.new.log _
     (record { listed = record { vars = c.requires; count = c.new.ensures.counted }; begun = ap (λ (l : Logged). l.state) c.in-Ok.ensures.opens.0; header = c.in-Ok.ensures.opens.1 })
     (rw c.in-Err-Memory-search.field-0-is at ends))
 
@@ -35,7 +35,7 @@ pub returns-clause-err : goal.returns-clause-err
 returns-clause-err g c =
     let ends = c.in-Err-WriteFault.ensures.error in (
       rose_further _ _ _ c.new.ensures.later (c.in-Err-WriteFault.ensures.fault (ap Err c.in-Err-WriteFault.field-0-is)),
-      fault_ends c.args.f.now (sink_change g.P.Sink.written g.P.Sink.faults c.args.proof.now c.search.new.sink) c.in-Ok.log c.search.new.log _
+      fault_ends c.args.options.conflicts c.args.f.now (sink_change g.P.Sink.written g.P.Sink.faults c.args.proof.now c.search.new.sink) c.in-Ok.log c.search.new.log _
           (record { listed = record { vars = c.requires; count = c.new.ensures.counted }; begun = ap (λ (l : Logged). l.state) c.in-Ok.ensures.opens.0; header = c.in-Ok.ensures.opens.1 })
           (rw c.in-Err-WriteFault.field-0-is at ends),
     )

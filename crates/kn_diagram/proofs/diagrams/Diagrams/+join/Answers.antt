@@ -14,7 +14,7 @@ pub returns-in-Some-decided-clause-joined : goal.returns-in-Some-decided-clause-
 returns-in-Some-decided-clause-joined t c =
     let P : List Met → Type 0 = λ after. Gains (connective c.args.joint) c.args.self.now c.args.memo.now after c.args.f c.args.g c.in-Some-decided.w in
     let none : found c.args.memo.now c.args.f c.args.g ≡ None = search rules in
-    subst P (sym c.in_ok-insert.ensures)
+    subst P (sym c.in_ok-insert.ensures.ok)
     (Gains-decided c.args.joint c.args.self.now c.args.memo.now c.args.f c.args.g c.in-Some-decided.w c.requires.f_there c.requires.g_there c.requires.explained
     none (sym c.in-Some-decided.ensures))
 
@@ -35,7 +35,7 @@ returns-clause-joined t c =
     let P : List Met → Type 0 = λ after. Gains (connective c.args.joint) c.make_at.new.self c.args.memo.now after c.args.f c.args.g c.in_ok-w.w in
     let none : found c.args.memo.now c.args.f c.args.g ≡ None = search rules in
     let at : c.min-depth.result ≡ min (depth_of c.args.self.now c.args.f) (depth_of c.args.self.now c.args.g) = search rules in
-    subst P (sym c.in_ok-insert-2.ensures)
+    subst P (sym c.in_ok-insert-2.ensures.ok)
     (Gains-open (connective c.args.joint) c.args.self.now c.join.new.self c.join-2.new.self c.make_at.new.self c.args.memo.now c.join.new.memo c.join-2.new.memo
     c.args.f c.args.g c.min-depth.result c.halves-f_high.result.0 c.halves-f_high.result.1 c.halves-g_high.result.0 c.halves-g_high.result.1
     c.in_ok-high.high c.in_ok-low.low c.in_ok-w.w at c.requires.f_there c.requires.g_there c.halves-f_high.ensures c.halves-g_high.ensures

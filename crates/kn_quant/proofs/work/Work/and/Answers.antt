@@ -49,4 +49,4 @@ returns-in-Err-clause-wide c =
     let len : c.len.result ≡ length c.self.inside.stages.items = search rules in
     subst (λ old. IfWideStage c.error_after.result (StopsIn old (Join (function_of old.table c.args.left) (function_of old.table c.args.right) ∷ []))) c.self.view_is
     (stops-next (progress c.self.inside.diagrams c.self.inside.stages.items c.self.inside.buckets.items c.self.inside.taken) (Join (function_of c.self.inside.diagrams c.args.left) (function_of c.self.inside.diagrams c.args.right)) (c.len.result - c.self.inside.taken) c.in-Err.error
-    c.error_after.result c.self.invariant (ap (λ n. n - c.self.inside.taken) len) c.error_after.ensures c.in-Err.ensures.wide c.in-Err.ensures.topmost)
+    c.error_after.result c.self.invariant (ap (λ n. n - c.self.inside.taken) len) c.error_after.ensures c.in-Err.ensures.wide)

@@ -46,4 +46,4 @@ returns-in-Err-clause-wide c =
     let len : c.len.result ≡ length c.self.inside.stages.items = search rules in
     subst (λ old. IfWideStage c.error_after.result (StopsIn old (Quantify c.args.var (function_of old.table c.args.from) ∷ []))) c.self.view_is
     (stops-next (progress c.self.inside.diagrams c.self.inside.stages.items c.self.inside.buckets.items c.self.inside.taken) (Quantify c.args.var (function_of c.self.inside.diagrams c.args.from)) (c.len.result - c.self.inside.taken) c.in-Err.error
-    c.error_after.result c.self.invariant (ap (λ n. n - c.self.inside.taken) len) c.error_after.ensures c.in-Err.ensures.wide c.in-Err.ensures.topmost)
+    c.error_after.result c.self.invariant (ap (λ n. n - c.self.inside.taken) len) c.error_after.ensures c.in-Err.ensures.wide)

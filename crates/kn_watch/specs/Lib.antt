@@ -1,0 +1,4 @@
+pub mod Trails
+pub mod Tables
+pub mod Watches
+pub mod Quiet
