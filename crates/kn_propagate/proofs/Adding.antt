@@ -6,7 +6,7 @@ use Rattle.std.proofs.lemmas.List.{get_or_append_left, get_or_push}
 use Rattle.kn_logic.specs.Constraints.{Bounded}
 use Rattle.kn_logic.specs.Literals.{Literal}
 use Rattle.kn_propagate.specs.declared.chains.Spot.{Spot}
-use Rattle.kn_propagate.specs.Watches.{listed, lit_at}
+use Rattle.kn_watch.specs.Watches.{listed, lit_at}
 use Rattle.kn_propagate.specs.Chains.{Watching, at_slot, lit_of_spot, is_in, code, with_chain, spot_at, AreLinked}
 use Rattle.kn_propagate.proofs.Relinking.{a_spot}
 
@@ -63,10 +63,10 @@ not_twice ws new s x g w q =
 HasOne : List Spot → ℕ → ℕ → (ℕ → List ℕ) → ℕ → ℕ → Bounded → Type 0
 HasOne spots from hand chain slot place c =
     (e : ℕ) × (spot_at spots e ≡ a_spot slot place)
-      × ((is_in e (chain (code (lit_at (listed c) place))) ≡ true) ⊎ ((code (lit_at (listed c) place) ≡ from) × (is_in e (chain hand) ≡ true)))
+    × ((is_in e (chain (code (lit_at (listed c) place))) ≡ true) ⊎ ((code (lit_at (listed c) place) ≡ from) × (is_in e (chain hand) ≡ true)))
 
 pub linked_gains : (ws new : List Watching) (spots : List Spot) (count hand from : ℕ) (chain : ℕ → List ℕ) (s : Spot) → AreLinked ws spots count hand from chain → Gains ws new s → code (lit_of_spot ws s) ≢ hand → hand < count → ((slot place : ℕ) → slot < length ws → place < length (listed (at_slot ws slot).c) → code (lit_at (listed (at_slot ws slot).c) place) < count) →
-  AreLinked new (spots ++ s ∷ []) count hand from (with_chain chain (code (lit_of_spot ws s)) (length spots ∷ chain (code (lit_of_spot ws s))))
+    AreLinked new (spots ++ s ∷ []) count hand from (with_chain chain (code (lit_of_spot ws s)) (length spots ∷ chain (code (lit_of_spot ws s))))
 unfolding HasOne
 linked_gains ws new spots count hand from chain s l g kh hc codes =
     let few = λ (k x : ℕ) (kc : k < count) (i : is_in x (chain k) ≡ true). l.numbered k x kc i in
@@ -74,10 +74,10 @@ linked_gains ws new spots count hand from chain s l g kh hc codes =
     let k = code (lit_of_spot ws s) in
     let more = spots ++ s ∷ [] in
     let came : (j x : ℕ) → j < count → is_in x (with_chain chain k (e ∷ chain k) j) ≡ true → ((x ≡ e) × (j ≡ k)) ⊎ ((x < e) × (is_in x (chain j) ≡ true)) =
-      λ j x jc i. elim (in_front chain e k j x (eqb j k) refl i) [
-        | inl a ↦ inl a
-        | inr a ↦ inr (few j x jc a, a)
-      ] in
+    λ j x jc i. elim (in_front chain e k j x (eqb j k) refl i) [
+      | inl a ↦ inl a
+      | inr a ↦ inr (few j x jc a, a)
+    ] in
     let at_e : (x : ℕ) → x ≡ e → spot_at more x ≡ s = λ x q. ap (spot_at more) q ∙ last spots s in
     record {
       numbered = λ j x jc i. elim (came j x jc i) [
@@ -102,18 +102,18 @@ linked_gains ws new spots count hand from chain s l g kh hc codes =
       ];
       apart = λ j h d x jc hc i m q. elim (came j d jc i) [
         | inl a ↦ elim (came h x hc m) [
-            | inl b ↦ a.0 ∙ sym b.0
-            | inr b ↦ absurd (not_twice ws new s (spot_at spots x) g (l.watched h x hc b.1) (sym (at_e d a.0) ∙ q ∙ before spots s x b.0))
-          ]
+          | inl b ↦ a.0 ∙ sym b.0
+          | inr b ↦ absurd (not_twice ws new s (spot_at spots x) g (l.watched h x hc b.1) (sym (at_e d a.0) ∙ q ∙ before spots s x b.0))
+        ]
         | inr a ↦ elim (came h x hc m) [
-            | inl b ↦ absurd (not_twice ws new s (spot_at spots d) g (l.watched j d jc a.1) (sym (at_e x b.0) ∙ sym q ∙ before spots s d a.0))
-            | inr b ↦ l.apart j h d x jc hc a.1 b.1 (sym (before spots s d a.0) ∙ q ∙ before spots s x b.0)
-          ]
+          | inl b ↦ absurd (not_twice ws new s (spot_at spots d) g (l.watched j d jc a.1) (sym (at_e x b.0) ∙ sym q ∙ before spots s d a.0))
+          | inr b ↦ l.apart j h d x jc hc a.1 b.1 (sym (before spots s d a.0) ∙ q ∙ before spots s x b.0)
+        ]
       ];
       all = λ slot place sl pl wa. (
-        let c_is = g.same slot in
-        let pl2 = subst (λ (c : Bounded). place < length (listed c)) c_is pl in
-        let kept : (at_slot ws slot).watches place ≡ true → HasOne more from hand (with_chain chain k (e ∷ chain k)) slot place (at_slot ws slot).c = λ w. (
+          let c_is = g.same slot in
+          let pl2 = subst (λ (c : Bounded). place < length (listed c)) c_is pl in
+          let kept : (at_slot ws slot).watches place ≡ true → HasOne more from hand (with_chain chain k (e ∷ chain k)) slot place (at_slot ws slot).c = λ w. (
           let sl2 : slot < length ws = omega (arith, sl, g.long) in
           let a = l.all slot place sl2 pl2 w in
           let here = code (lit_at (listed (at_slot ws slot).c) place) in
@@ -121,13 +121,16 @@ linked_gains ws new spots count hand from chain s l g kh hc codes =
             | inl i ↦ (a.0, before spots s a.0 (few here a.0 (codes slot place sl2 pl2) i) ∙ a.1, inl (stays_in chain e k here a.0 (eqb here k) refl i))
             | inr i ↦ (a.0, before spots s a.0 (few hand a.0 hc i.1) ∙ a.1, inr (i.0, stays_in chain e k hand a.0 (eqb hand k) refl i.1))
           ]) in
-        subst (λ (c : Bounded). HasOne more from hand (with_chain chain k (e ∷ chain k)) slot place c) (sym c_is) (
+          subst (λ (c : Bounded). HasOne more from hand (with_chain chain k (e ∷ chain k)) slot place c) (sym c_is) (
           elim (cases_eq slot s.owner) [
             | inr o ↦ kept (subst (λ (z : Watching). z.watches place ≡ true) (g.others slot o) wa)
             | inl o ↦ elim (cases_eq place s.place) [
-                | inr p ↦ kept (subst (λ (z : ℕ). (at_slot ws z).watches place ≡ true) (sym o) (sym (g.rest place p) ∙ subst (λ (z : ℕ). (at_slot new z).watches place ≡ true) o wa))
-                | inl p ↦ (e, last spots s ∙ ap (λ (z : ℕ). a_spot z s.place) (sym o) ∙ ap (λ (z : ℕ). a_spot slot z) (sym p),
-                    inl (subst (λ (z : ℕ). is_in e (with_chain chain k (e ∷ chain k) z) ≡ true) (ap (λ (z : ℕ). code (lit_at (listed (at_slot ws z).c) s.place)) (sym o) ∙ ap (λ (z : ℕ). code (lit_at (listed (at_slot ws slot).c) z)) (sym p)) (put_in chain e k)))
-              ]
+              | inr p ↦ kept (subst (λ (z : ℕ). (at_slot ws z).watches place ≡ true) (sym o) (sym (g.rest place p) ∙ subst (λ (z : ℕ). (at_slot new z).watches place ≡ true) o wa))
+              | inl p ↦ (
+                e,
+                last spots s ∙ ap (λ (z : ℕ). a_spot z s.place) (sym o) ∙ ap (λ (z : ℕ). a_spot slot z) (sym p),
+                inl (subst (λ (z : ℕ). is_in e (with_chain chain k (e ∷ chain k) z) ≡ true) (ap (λ (z : ℕ). code (lit_at (listed (at_slot ws z).c) s.place)) (sym o) ∙ ap (λ (z : ℕ). code (lit_at (listed (at_slot ws slot).c) z)) (sym p)) (put_in chain e k)),
+              )
+            ]
           ]));
     }

@@ -5,9 +5,9 @@ use Rattle.std.proofs.lemmas.Bool.{eq-eqb, ne_eqb, eqb-true, eqb-false, cases_eq
 use Rattle.std.proofs.lemmas.List.{get_or-set_same, get_or-set_other}
 use Rattle.std.proofs.Math.ListN.{length-set}
 use Rattle.kn_logic.specs.Literals.{Literal}
-use Rattle.kn_propagate.specs.declared.trail.Made.{Made}
+use Rattle.kn_watch.specs.declared.trail.Made.{Made}
 use Rattle.kn_propagate.specs.declared.chains.Spot.{Spot}
-use Rattle.kn_propagate.specs.Watches.{listed, lit_at, IsSettled, NoneFalse}
+use Rattle.kn_watch.specs.Watches.{listed, lit_at, IsSettled, NoneFalse}
 use Rattle.kn_propagate.specs.Chains.{Watching, at_slot, lit_of_spot, is_in, code, spot_at, with_chain, IsChain, AreChains, AreLinked, IsWalked, IsAtRest, hand_of, IsWired, IsWalking, IsStopped, IsIdle}
 use Rattle.kn_propagate.proofs.Steps.{chain_none}
 
@@ -42,18 +42,18 @@ module _ (nexts heads : List ℕ) (chain : ℕ → List ℕ) (home : ℕ → ℕ
       elim (cases_eq j from) [
         | inl e ↦ subst (λ (n : ℕ). IsChain nexts (slice_index_or (slice_set (slice_set heads hand (slice_index_or heads from 0)) from 0) n 0) (lifted chain hand from n)) (sym e)
             (subst (λ (xs : List ℕ). IsChain nexts (slice_index_or (slice_set (slice_set heads hand (slice_index_or heads from 0)) from 0) from 0) xs) (sym (at_from chain hand from))
-              (get_or-set_same (slice_set heads hand (slice_index_or heads from 0)) from 0 0 (omega (arith, fh, long))))
+            (get_or-set_same (slice_set heads hand (slice_index_or heads from 0)) from 0 0 (omega (arith, fh, long))))
         | inr d ↦ elim (cases_eq j hand) [
-            | inl e ↦ subst (λ (n : ℕ). IsChain nexts (slice_index_or (slice_set (slice_set heads hand (slice_index_or heads from 0)) from 0) n 0) (lifted chain hand from n)) (sym e)
-                (subst (λ (xs : List ℕ). IsChain nexts (slice_index_or (slice_set (slice_set heads hand (slice_index_or heads from 0)) from 0) hand 0) xs) (sym (at_hand chain hand from (λ (q : hand ≡ from). omega (arith, q, fh))))
-                  (subst (λ (n : ℕ). IsChain nexts n (chain from))
-                    (sym (get_or-set_other (slice_set heads hand (slice_index_or heads from 0)) from hand 0 0 (λ (q : hand ≡ from). omega (arith, q, fh)) ∙ get_or-set_same heads hand (slice_index_or heads from 0) 0 hl))
-                    (are.spelled from (omega (arith, fh)))))
-            | inr g ↦ subst (λ (xs : List ℕ). IsChain nexts (slice_index_or (slice_set (slice_set heads hand (slice_index_or heads from 0)) from 0) j 0) xs) (sym (at_other chain hand from j g d))
-                (subst (λ (n : ℕ). IsChain nexts n (chain j))
-                  (sym (get_or-set_other (slice_set heads hand (slice_index_or heads from 0)) from j 0 0 d ∙ get_or-set_other heads hand j (slice_index_or heads from 0) 0 g))
-                  (are.spelled j lj))
-          ]
+          | inl e ↦ subst (λ (n : ℕ). IsChain nexts (slice_index_or (slice_set (slice_set heads hand (slice_index_or heads from 0)) from 0) n 0) (lifted chain hand from n)) (sym e)
+              (subst (λ (xs : List ℕ). IsChain nexts (slice_index_or (slice_set (slice_set heads hand (slice_index_or heads from 0)) from 0) hand 0) xs) (sym (at_hand chain hand from (λ (q : hand ≡ from). omega (arith, q, fh))))
+              (subst (λ (n : ℕ). IsChain nexts n (chain from))
+              (sym (get_or-set_other (slice_set heads hand (slice_index_or heads from 0)) from hand 0 0 (λ (q : hand ≡ from). omega (arith, q, fh)) ∙ get_or-set_same heads hand (slice_index_or heads from 0) 0 hl))
+              (are.spelled from (omega (arith, fh)))))
+          | inr g ↦ subst (λ (xs : List ℕ). IsChain nexts (slice_index_or (slice_set (slice_set heads hand (slice_index_or heads from 0)) from 0) j 0) xs) (sym (at_other chain hand from j g d))
+              (subst (λ (n : ℕ). IsChain nexts n (chain j))
+              (sym (get_or-set_other (slice_set heads hand (slice_index_or heads from 0)) from j 0 0 d ∙ get_or-set_other heads hand j (slice_index_or heads from 0) 0 g))
+              (are.spelled j lj))
+        ]
       ]
 
   lift_homes : (j x : ℕ) → j < length heads → is_in x (lifted chain (hand_of heads) from j) ≡ true → home_of home (hand_of heads) from x ≡ j
@@ -93,18 +93,18 @@ module _ (ws : List Watching) (spots : List Spot) (heads : List ℕ) (old from :
         coded = λ k x kc i. (let o = came k x kc i in l.coded o.0 x o.1 o.2 ∙ cond-false (eqb o.0 hand) old o.0 (ne_eqb o.0 hand o.3) ∙ o.4);
         apart = λ j k d x jc kc i m s. (let o = came j d jc i in let p = came k x kc m in l.apart o.0 p.0 d x o.1 p.1 o.2 p.2 s);
         all = λ slot place sl pl wa. (
-          let a = l.all slot place sl pl wa in
-          let here = code (lit_at (listed (at_slot ws slot).c) place) in
-          elim (a.2) [
-            | inr i ↦ (let n = subst (λ (xs : List ℕ). is_in a.0 xs ≡ true) none i.1 in absurd cc)
-            | inl i ↦ elim (cases_eq here from) [
+            let a = l.all slot place sl pl wa in
+            let here = code (lit_at (listed (at_slot ws slot).c) place) in
+            elim (a.2) [
+              | inr i ↦ (let n = subst (λ (xs : List ℕ). is_in a.0 xs ≡ true) none i.1 in absurd cc)
+              | inl i ↦ elim (cases_eq here from) [
                 | inl e ↦ (a.0, a.1, inr (e, subst (λ (xs : List ℕ). is_in a.0 xs ≡ true) (sym (at_hand chain hand from (λ (q : hand ≡ from). omega (arith, q, fh)))) (subst (λ (n : ℕ). is_in a.0 (chain n) ≡ true) e i)))
                 | inr d ↦ elim (cases_eq here hand) [
-                    | inl q ↦ (let n = subst (λ (xs : List ℕ). is_in a.0 xs ≡ true) (ap chain q ∙ none) i in absurd cc)
-                    | inr q ↦ (a.0, a.1, inl (subst (λ (xs : List ℕ). is_in a.0 xs ≡ true) (sym (at_other chain hand from here q d)) i))
-                  ]
+                  | inl q ↦ (let n = subst (λ (xs : List ℕ). is_in a.0 xs ≡ true) (ap chain q ∙ none) i in absurd cc)
+                  | inr q ↦ (a.0, a.1, inl (subst (λ (xs : List ℕ). is_in a.0 xs ≡ true) (sym (at_other chain hand from here q d)) i))
+                ]
               ]
-          ]);
+            ]);
       }
 
   -- what is watched of the chain stands in the hand

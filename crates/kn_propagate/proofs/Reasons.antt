@@ -8,12 +8,12 @@ use Rattle.kn_logic.specs.Constraints.{Bounded}
 use Rattle.kn_logic.specs.Literals.{Literal, negated, is_same, has}
 use Rattle.kn_logic.specs.Propagation.{is_open, Forces}
 use Rattle.kn_logic.proofs.Public.{IsOn, forces-bound, forces-guard, has-first}
-use Rattle.kn_propagate.specs.declared.trail.Made.{Made}
-use Rattle.kn_propagate.specs.Trails.{Trailed, literals}
-use Rattle.kn_propagate.specs.Watches.{listed, unguarded, lit_at, is_unset, IsBinding, IsForced}
+use Rattle.kn_watch.specs.declared.trail.Made.{Made}
+use Rattle.kn_watch.specs.Trails.{Trailed, literals}
+use Rattle.kn_watch.specs.Watches.{listed, unguarded, lit_at, is_unset, IsBinding, IsForced}
 use Rattle.kn_propagate.specs.Chains.{Watching, at_slot, AreSame, IsGrown, AreForcedBy, HasReason, AreReasoned}
-use Rattle.kn_propagate.proofs.Forcing.{lit_own, lit_last, long_none, long_one}
-use Rattle.kn_propagate.proofs.Growing.{negated_twice}
+use Rattle.kn_watch.proofs.Public.{lit_own, lit_last, long_none, long_one}
+use Rattle.kn_watch.proofs.Public.{negated_twice}
 use Rattle.kn_propagate.proofs.Walks.{length-literals}
 
 has_place : (lits : List Literal) (place : ℕ) → place < length lits → has lits (lit_at lits place) ≡ true
@@ -75,11 +75,12 @@ forced_push id c made u v m is r f h =
           let k = h place n le (sym (get_front u.made (m ∷ []) place lt) ∙ e) in
           (k.0, subst (λ (x : List Literal). Forces x c n.lit) (sym (take_lits u.made (m ∷ []) place (omega (arith, lt)))) k.1))
       | inr ge ↦ (
-          let k = get_last u.made m n place ge e in
-          (ap (λ (x : Made). x.reason) k.1 ∙ r,
-           subst (λ (i : ℕ). Forces (take i (literals (u.made ++ m ∷ []))) c n.lit) (sym k.0)
-             (subst (λ (x : List Literal). Forces x c n.lit) (sym (whole u.made (m ∷ [])))
-               (subst (λ (x : Made). Forces (literals u.made) c x.lit) (sym k.1) f))))
+          let k = get_last u.made m n place ge e in (
+            ap (λ (x : Made). x.reason) k.1 ∙ r,
+            subst (λ (i : ℕ). Forces (take i (literals (u.made ++ m ∷ []))) c n.lit) (sym k.0)
+                (subst (λ (x : List Literal). Forces x c n.lit) (sym (whole u.made (m ∷ [])))
+                (subst (λ (x : Made). Forces (literals u.made) c x.lit) (sym k.1) f)),
+          ))
     ])
 
 pub reasons_none : (ws : List Watching) (made : List Made) → AreReasoned ws made made

@@ -8,12 +8,12 @@ use Rattle.std.proofs.Math.ListN.{length-set}
 use Rattle.kn_logic.specs.Constraints.{Bounded}
 use Rattle.kn_logic.specs.Literals.{Literal, negated, has}
 use Rattle.kn_logic.specs.Propagation.{is_open, IsConsistent}
-use Rattle.kn_propagate.specs.declared.trail.Made.{Made}
+use Rattle.kn_watch.specs.declared.trail.Made.{Made}
 use Rattle.kn_propagate.specs.declared.chains.Spot.{Spot}
-use Rattle.kn_propagate.specs.Trails.{literals, below}
-use Rattle.kn_propagate.specs.Watches.{listed, lit_at, NoneFalse, IsSatisfied, IsSettled, IsMoved}
+use Rattle.kn_watch.specs.Trails.{literals, below}
+use Rattle.kn_watch.specs.Watches.{listed, lit_at, NoneFalse, IsSatisfied, IsSettled, IsMoved}
 use Rattle.kn_propagate.specs.Chains.{Watching, at_slot, lit_of_spot, is_in, code, with_chain, spot_at, AreLinked, IsWalked, IsAtRest, Goes}
-use Rattle.kn_propagate.proofs.Within.{Within, none_false_within, satisfied_within, open_within}
+use Rattle.kn_watch.proofs.Public.{Within, none_false_within, satisfied_within, open_within}
 
 -- the chains after an entry of the hand was put in front of another chain
 abbrev pub relaid : (ℕ → List ℕ) → ℕ → List ℕ → ℕ → ℕ → ℕ → List ℕ
@@ -65,10 +65,10 @@ first_in chain hand rest e is = subst (λ (xs : List ℕ). is_in e xs ≡ true) 
 pub linked_stays : (ws : List Watching) (spots : List Spot) (count hand from : ℕ) (chain : ℕ → List ℕ) (e : ℕ) (rest : List ℕ) → AreLinked ws spots count hand from chain → hand < count → from ≢ hand → chain hand ≡ e ∷ rest → AreLinked ws spots count hand from (relaid chain hand rest e from)
 linked_stays ws spots count hand from chain e rest l hc fh is =
     let came : (k x : ℕ) → k < count → is_in x (relaid chain hand rest e from k) ≡ true → (j : ℕ) × (j < count) × (is_in x (chain j) ≡ true) × (cond (eqb j hand) from j ≡ cond (eqb k hand) from k) =
-      λ k x kc i. elim (where_laid chain hand rest e from k x is i) [
-        | inl s ↦ (hand, hc, subst (λ (z : ℕ). is_in z (chain hand) ≡ true) (sym s.0) (first_in chain hand rest e is), cond-true (eqb hand hand) from hand (eq-eqb hand hand refl) ∙ sym (cond-false (eqb k hand) from k (ne_eqb k hand (λ (q : k ≡ hand). fh (sym s.1 ∙ q))) ∙ s.1))
-        | inr s ↦ (k, kc, s.1, refl)
-      ] in
+    λ k x kc i. elim (where_laid chain hand rest e from k x is i) [
+      | inl s ↦ (hand, hc, subst (λ (z : ℕ). is_in z (chain hand) ≡ true) (sym s.0) (first_in chain hand rest e is), cond-true (eqb hand hand) from hand (eq-eqb hand hand refl) ∙ sym (cond-false (eqb k hand) from k (ne_eqb k hand (λ (q : k ≡ hand). fh (sym s.1 ∙ q))) ∙ s.1))
+      | inr s ↦ (k, kc, s.1, refl)
+    ] in
     record {
       numbered = λ k x kc i. (let o = came k x kc i in l.numbered o.0 x o.1 o.2);
       owned = λ k x kc i. (let o = came k x kc i in l.owned o.0 x o.1 o.2);
@@ -77,18 +77,18 @@ linked_stays ws spots count hand from chain e rest l hc fh is =
       coded = λ k x kc i. (let o = came k x kc i in l.coded o.0 x o.1 o.2 ∙ o.3);
       apart = λ j k d x jc kc i m s. (let o = came j d jc i in let p = came k x kc m in l.apart o.0 p.0 d x o.1 p.1 o.2 p.2 s);
       all = λ slot place sl pl wa. (
-        let a = l.all slot place sl pl wa in
-        let here = code (lit_at (listed (at_slot ws slot).c) place) in
-        elim (cases_eq a.0 e) [
-          | inl q ↦ (
-              let c : code (lit_of_spot ws (spot_at spots e)) ≡ from = l.coded hand e hc (first_in chain hand rest e is) ∙ cond-true (eqb hand hand) from hand (eq-eqb hand hand refl) in
-              let f : here ≡ from = ap (λ (s : Spot). code (lit_of_spot ws s)) (sym a.1 ∙ ap (spot_at spots) q) ∙ c in
-              (a.0, a.1, inl (subst (λ (z : ℕ). is_in a.0 (relaid chain hand rest e from z) ≡ true) (sym f) (subst (λ (z : ℕ). is_in z (relaid chain hand rest e from from) ≡ true) (sym q) (laid_in chain hand rest e from)))))
-          | inr d ↦ elim (a.2) [
+          let a = l.all slot place sl pl wa in
+          let here = code (lit_at (listed (at_slot ws slot).c) place) in
+          elim (cases_eq a.0 e) [
+            | inl q ↦ (
+                let c : code (lit_of_spot ws (spot_at spots e)) ≡ from = l.coded hand e hc (first_in chain hand rest e is) ∙ cond-true (eqb hand hand) from hand (eq-eqb hand hand refl) in
+                let f : here ≡ from = ap (λ (s : Spot). code (lit_of_spot ws s)) (sym a.1 ∙ ap (spot_at spots) q) ∙ c in
+                (a.0, a.1, inl (subst (λ (z : ℕ). is_in a.0 (relaid chain hand rest e from z) ≡ true) (sym f) (subst (λ (z : ℕ). is_in z (relaid chain hand rest e from from) ≡ true) (sym q) (laid_in chain hand rest e from)))))
+            | inr d ↦ elim (a.2) [
               | inl i ↦ (a.0, a.1, inl (still chain hand rest e from here a.0 is d i))
               | inr i ↦ (a.0, a.1, inr (i.0, still chain hand rest e from hand a.0 is d i.1))
             ]
-        ]);
+          ]);
     }
 
 pub spot_other : (spots : List Spot) (e x : ℕ) (to : Spot) → x ≢ e → spot_at (slice_set spots e to) x ≡ spot_at spots x
@@ -119,7 +119,7 @@ stays_watched ws new from to s g w d =
 abbrev HasEntry : List Spot → ℕ → ℕ → (ℕ → List ℕ) → ℕ → ℕ → Bounded → Type 0
 HasEntry spots from hand chain slot place c =
     (e : ℕ) × (spot_at spots e ≡ a_spot slot place)
-      × ((is_in e (chain (code (lit_at (listed c) place))) ≡ true) ⊎ ((code (lit_at (listed c) place) ≡ from) × (is_in e (chain hand) ≡ true)))
+    × ((is_in e (chain (code (lit_at (listed c) place))) ≡ true) ⊎ ((code (lit_at (listed c) place) ≡ from) × (is_in e (chain hand) ≡ true)))
 
 taken_twice : (ws new : List Watching) (spots : List Spot) (e x : ℕ) (to : Spot) → Goes ws new (spot_at spots e) to → (at_slot ws (spot_at spots x).owner).watches (spot_at spots x).place ≡ true → to ≡ spot_at spots x → ⊥
 taken_twice ws new spots e x to g w q =
@@ -134,10 +134,10 @@ linked_moves ws new spots count hand from chain e rest to l hc is loose g kh =
     let mine = first_in chain hand rest e is in
     let en = l.numbered hand e hc mine in
     let came : (j x : ℕ) → j < count → is_in x (relaid chain hand rest e k j) ≡ true → ((x ≡ e) × (j ≡ k)) ⊎ ((x ≢ e) × (is_in x (chain j) ≡ true)) =
-      λ j x jc i. elim (where_laid chain hand rest e k j x is i) [
-        | inl s ↦ inl s
-        | inr s ↦ inr (not_in x e (with_chain chain hand rest j) s.0 (loose j jc), s.1)
-      ] in
+    λ j x jc i. elim (where_laid chain hand rest e k j x is i) [
+      | inl s ↦ inl s
+      | inr s ↦ inr (not_in x e (with_chain chain hand rest j) s.0 (loose j jc), s.1)
+    ] in
     let here = spot_here spots e to en in
     let at_e : (x : ℕ) → x ≡ e → spot_at (slice_set spots e to) x ≡ to = λ x q. ap (spot_at (slice_set spots e to)) q ∙ here in
     record {
@@ -164,18 +164,18 @@ linked_moves ws new spots count hand from chain e rest to l hc is loose g kh =
       ];
       apart = λ j h d x jc hc2 i m s. elim (came j d jc i) [
         | inl a ↦ elim (came h x hc2 m) [
-            | inl b ↦ a.0 ∙ sym b.0
-            | inr b ↦ absurd (taken_twice ws new spots e x to g (l.watched h x hc2 b.1) (sym (at_e d a.0) ∙ s ∙ spot_other spots e x to b.0))
-          ]
+          | inl b ↦ a.0 ∙ sym b.0
+          | inr b ↦ absurd (taken_twice ws new spots e x to g (l.watched h x hc2 b.1) (sym (at_e d a.0) ∙ s ∙ spot_other spots e x to b.0))
+        ]
         | inr a ↦ elim (came h x hc2 m) [
-            | inl b ↦ absurd (taken_twice ws new spots e d to g (l.watched j d jc a.1) (sym (at_e x b.0) ∙ sym s ∙ spot_other spots e d to a.0))
-            | inr b ↦ l.apart j h d x jc hc2 a.1 b.1 (sym (spot_other spots e d to a.0) ∙ s ∙ spot_other spots e x to b.0)
-          ]
+          | inl b ↦ absurd (taken_twice ws new spots e d to g (l.watched j d jc a.1) (sym (at_e x b.0) ∙ sym s ∙ spot_other spots e d to a.0))
+          | inr b ↦ l.apart j h d x jc hc2 a.1 b.1 (sym (spot_other spots e d to a.0) ∙ s ∙ spot_other spots e x to b.0)
+        ]
       ];
       all = λ slot place sl pl wa. (
-        let c_is = g.same slot in
-        let pl2 = subst (λ (c : Bounded). place < length (listed c)) c_is pl in
-        let kept : (at_slot ws slot).watches place ≡ true → (slot ≢ (spot_at spots e).owner) ⊎ (place ≢ (spot_at spots e).place) → HasEntry (slice_set spots e to) from hand (relaid chain hand rest e k) slot place (at_slot ws slot).c = λ w d. (
+          let c_is = g.same slot in
+          let pl2 = subst (λ (c : Bounded). place < length (listed c)) c_is pl in
+          let kept : (at_slot ws slot).watches place ≡ true → (slot ≢ (spot_at spots e).owner) ⊎ (place ≢ (spot_at spots e).place) → HasEntry (slice_set spots e to) from hand (relaid chain hand rest e k) slot place (at_slot ws slot).c = λ w d. (
           let a = l.all slot place (omega (arith, sl, g.long)) pl2 w in
           let xe : a.0 ≢ e = λ (q : a.0 ≡ e). (let s = sym (ap (spot_at spots) q) ∙ a.1 in elim d [ inl o ↦ o (sym (ap (λ (z : Spot). z.owner) s)) | inr p ↦ p (sym (ap (λ (z : Spot). z.place) s)) ]) in
           let s2 = spot_other spots e a.0 to xe ∙ a.1 in
@@ -183,18 +183,21 @@ linked_moves ws new spots count hand from chain e rest to l hc is loose g kh =
             | inl i ↦ (a.0, s2, inl (still chain hand rest e k (code (lit_at (listed (at_slot ws slot).c) place)) a.0 is xe i))
             | inr i ↦ (a.0, s2, inr (i.0, still chain hand rest e k hand a.0 is xe i.1))
           ]) in
-        subst (λ (c : Bounded). HasEntry (slice_set spots e to) from hand (relaid chain hand rest e k) slot place c) (sym c_is) (
+          subst (λ (c : Bounded). HasEntry (slice_set spots e to) from hand (relaid chain hand rest e k) slot place c) (sym c_is) (
           elim (cases_eq slot (spot_at spots e).owner) [
             | inr o ↦ kept (subst (λ (z : Watching). z.watches place ≡ true) (g.others slot o) wa) (inl o)
             | inl o ↦ (
                 let wa2 = subst (λ (z : ℕ). (at_slot new z).watches place ≡ true) o wa in
                 elim (cases_eq place to.place) [
-                  | inl p ↦ (e, here ∙ ap (λ (z : ℕ). a_spot z to.place) (g.owner ∙ sym o) ∙ ap (λ (z : ℕ). a_spot slot z) (sym p),
-                      inl (subst (λ (z : ℕ). is_in e (relaid chain hand rest e k z) ≡ true) (ap (λ (z : ℕ). code (lit_at (listed (at_slot ws z).c) to.place)) (g.owner ∙ sym o) ∙ ap (λ (z : ℕ). code (lit_at (listed (at_slot ws slot).c) z)) (sym p)) (laid_in chain hand rest e k)))
+                  | inl p ↦ (
+                    e,
+                    here ∙ ap (λ (z : ℕ). a_spot z to.place) (g.owner ∙ sym o) ∙ ap (λ (z : ℕ). a_spot slot z) (sym p),
+                    inl (subst (λ (z : ℕ). is_in e (relaid chain hand rest e k z) ≡ true) (ap (λ (z : ℕ). code (lit_at (listed (at_slot ws z).c) to.place)) (g.owner ∙ sym o) ∙ ap (λ (z : ℕ). code (lit_at (listed (at_slot ws slot).c) z)) (sym p)) (laid_in chain hand rest e k)),
+                  )
                   | inr p ↦ elim (cases_eq place (spot_at spots e).place) [
-                      | inl q ↦ (let r = g.released in let r2 = subst (λ (z : ℕ). (at_slot new (spot_at spots e).owner).watches z ≡ true) q wa2 in absurd cc)
-                      | inr q ↦ kept (subst (λ (z : ℕ). (at_slot ws z).watches place ≡ true) (sym o) (sym (g.rest place q p) ∙ wa2)) (inr q)
-                    ]
+                    | inl q ↦ (let r = g.released in let r2 = subst (λ (z : ℕ). (at_slot new (spot_at spots e).owner).watches z ≡ true) q wa2 in absurd cc)
+                    | inr q ↦ kept (subst (λ (z : ℕ). (at_slot ws z).watches place ≡ true) (sym o) (sym (g.rest place q p) ∙ wa2)) (inr q)
+                  ]
                 ])
           ]));
     }

@@ -14,9 +14,9 @@ spared_trans count t u v a b = record {
   long = b.long ∙ a.long;
   head = b.head ∙ a.head;
   rest = λ e ge. (
-    let x = a.rest e ge in
-    let y = b.rest e (omega (arith, ge, ap (λ (s : Spot). s.owner) x.0)) in
-    (y.0 ∙ x.0, y.1 ∙ x.1));
+      let x = a.rest e ge in
+      let y = b.rest e (omega (arith, ge, ap (λ (s : Spot). s.owner) x.0)) in
+      (y.0 ∙ x.0, y.1 ∙ x.1));
 }
 
 other : (count : ℕ) (t u : Chained) (x e : ℕ) → AreSpared count t u → count ≤ (spot_at t.spots x).owner → (spot_at u.spots e).owner < count → x ≢ e
@@ -28,9 +28,10 @@ spared_lay count t u d v e n s lt a b c x y z = record {
   long = ap (λ (i : List Spot). length i) (x ∙ a) ∙ s.long;
   head = z ∙ c ∙ s.head;
   rest = λ i ge. (
-    let r = s.rest i ge in
-    (ap (λ (j : List Spot). spot_at j i) (x ∙ a) ∙ r.0,
-     ap (λ (j : List ℕ). slice_index_or j i 0) y ∙ get_or-set_other d.nexts e i n 0 (other count t u i e s ge lt) ∙ ap (λ (j : List ℕ). slice_index_or j i 0) b ∙ r.1));
+      let r = s.rest i ge in (
+        ap (λ (j : List Spot). spot_at j i) (x ∙ a) ∙ r.0,
+        ap (λ (j : List ℕ). slice_index_or j i 0) y ∙ get_or-set_other d.nexts e i n 0 (other count t u i e s ge lt) ∙ ap (λ (j : List ℕ). slice_index_or j i 0) b ∙ r.1,
+      ));
 }
 
 -- and gets another spot
@@ -39,10 +40,11 @@ spared_place count t u d v e n to s lt a b c x y z = record {
   long = ap (λ (i : List Spot). length i) x ∙ length-set d.spots e to ∙ ap (λ (i : List Spot). length i) a ∙ s.long;
   head = z ∙ c ∙ s.head;
   rest = λ i ge. (
-    let r = s.rest i ge in
-    let o = other count t u i e s ge lt in
-    (ap (λ (j : List Spot). spot_at j i) x ∙ get_or-set_other d.spots e i to (record { owner = 0; place = 0 }) o ∙ ap (λ (j : List Spot). spot_at j i) a ∙ r.0,
-     ap (λ (j : List ℕ). slice_index_or j i 0) y ∙ get_or-set_other d.nexts e i n 0 o ∙ ap (λ (j : List ℕ). slice_index_or j i 0) b ∙ r.1));
+      let r = s.rest i ge in
+      let o = other count t u i e s ge lt in (
+        ap (λ (j : List Spot). spot_at j i) x ∙ get_or-set_other d.spots e i to (record { owner = 0; place = 0 }) o ∙ ap (λ (j : List Spot). spot_at j i) a ∙ r.0,
+        ap (λ (j : List ℕ). slice_index_or j i 0) y ∙ get_or-set_other d.nexts e i n 0 o ∙ ap (λ (j : List ℕ). slice_index_or j i 0) b ∙ r.1,
+      ));
 }
 
 -- a chain is put into the hand and walked

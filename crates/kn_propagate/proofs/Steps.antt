@@ -7,15 +7,17 @@ use Rattle.std.proofs.Math.ListN.{length-set}
 use Rattle.kn_logic.specs.Constraints.{Bounded}
 use Rattle.kn_logic.specs.Literals.{Literal, negated, has, is_same}
 use Rattle.kn_logic.specs.Propagation.{is_open}
-use Rattle.kn_propagate.specs.declared.trail.Made.{Made}
+use Rattle.kn_watch.specs.declared.trail.Made.{Made}
 use Rattle.kn_propagate.specs.declared.chains.Spot.{Spot}
-use Rattle.kn_propagate.specs.Trails.{literals, below, lit_of}
-use Rattle.kn_propagate.specs.Watches.{listed, lit_at, NoneFalse, IsSatisfied, IsSettled}
-use Rattle.kn_propagate.specs.Chains.{Watching, at_slot, lit_of_spot, is_in, code, spot_at, with_chain, with_home, IsChain, AreChains, AreLinked, IsWalked, IsAtRest, Grows, Goes, IsDrawn, hand_of, IsWired, IsWalking, IsStopped, count_from}
-use Rattle.kn_propagate.proofs.Within.{Within}
+use Rattle.kn_watch.specs.Trails.{literals, below, lit_of}
+use Rattle.kn_watch.specs.Watches.{listed, lit_at, NoneFalse, IsSatisfied, IsSettled}
+use Rattle.kn_watch.specs.Trails.{Grows}
+use Rattle.kn_propagate.specs.Chains.{Watching, at_slot, lit_of_spot, is_in, code, spot_at, with_chain, with_home, IsChain, AreChains, AreLinked, IsWalked, IsAtRest, Goes, IsDrawn, hand_of, IsWired, IsWalking, IsStopped, count_from}
+use Rattle.kn_watch.proofs.Public.{Within}
 use Rattle.kn_propagate.proofs.Laying.{first_once, lay, draw, drawn_loose, count_is, chain_short}
 use Rattle.kn_propagate.proofs.Relinking.{relaid, linked_stays, linked_moves}
-use Rattle.kn_propagate.proofs.Growing.{code_one, negated_twice, IsTop, settled_grows, walked_satisfied, walked_other, walked_moved, walked_moved_other, walked_all}
+use Rattle.kn_watch.proofs.Public.{negated_twice, IsTop, settled_grows}
+use Rattle.kn_propagate.proofs.Resting.{code_one, walked_satisfied, walked_other, walked_moved, walked_moved_other, walked_all}
 
 chain_first : (nexts : List ℕ) (head e : ℕ) (xs : List ℕ) → IsChain nexts head xs → head ≡ e + 1 → (rest : List ℕ) × (xs ≡ e ∷ rest)
 chain_first nexts head e [] a q = absurd (omega (arith, a, q))
@@ -48,7 +50,7 @@ relinked : (ws : List Watching) (spots : List Spot) (heads new : List ℕ) (from
 relinked ws spots heads new from chain e l = subst (λ (n : ℕ). AreLinked ws spots n (n - 1) from chain) (sym e) l
 
 pub wired_stays : (ws : List Watching) (spots : List Spot) (nexts heads new : List ℕ) (from : ℕ) (chain : ℕ → List ℕ) (home : ℕ → ℕ) (e : ℕ) (rest : List ℕ) → IsWired ws spots nexts heads from chain home → IsDrawn nexts heads new (hand_of heads) (Some e) → from < hand_of heads → chain (hand_of heads) ≡ e ∷ rest →
-  IsWired ws spots (slice_set nexts e (slice_index_or new from 0)) (slice_set new from (e + 1)) from (relaid chain (hand_of heads) rest e from) (with_home home e from)
+    IsWired ws spots (slice_set nexts e (slice_index_or new from 0)) (slice_set new from (e + 1)) from (relaid chain (hand_of heads) rest e from) (with_home home e from)
 wired_stays ws spots nexts heads new from chain home e rest w d fh is =
     let hand = hand_of heads in
     let hl : hand < length heads = omega (arith, w.some) in
@@ -62,7 +64,7 @@ wired_stays ws spots nexts heads new from chain home e rest w d fh is =
     }
 
 pub wired_moves : (ws to_ws : List Watching) (spots : List Spot) (nexts heads new : List ℕ) (from : ℕ) (chain : ℕ → List ℕ) (home : ℕ → ℕ) (e : ℕ) (rest : List ℕ) (to : Spot) → IsWired ws spots nexts heads from chain home → IsDrawn nexts heads new (hand_of heads) (Some e) → code (lit_of_spot ws to) < hand_of heads → chain (hand_of heads) ≡ e ∷ rest → Goes ws to_ws (spot_at spots e) to →
-  IsWired to_ws (slice_set spots e to) (slice_set nexts e (slice_index_or new (code (lit_of_spot ws to)) 0)) (slice_set new (code (lit_of_spot ws to)) (e + 1)) from (relaid chain (hand_of heads) rest e (code (lit_of_spot ws to))) (with_home home e (code (lit_of_spot ws to)))
+    IsWired to_ws (slice_set spots e to) (slice_set nexts e (slice_index_or new (code (lit_of_spot ws to)) 0)) (slice_set new (code (lit_of_spot ws to)) (e + 1)) from (relaid chain (hand_of heads) rest e (code (lit_of_spot ws to))) (with_home home e (code (lit_of_spot ws to)))
 wired_moves ws to_ws spots nexts heads new from chain home e rest to w d kh is g =
     let hand = hand_of heads in
     let k = code (lit_of_spot ws to) in
@@ -72,7 +74,7 @@ wired_moves ws to_ws spots nexts heads new from chain home e rest to w d kh is g
     record {
       chains = relaid_chains nexts heads new chain home hand e k rest w.chains hl (omega (arith, kh)) en is d.1;
       linked = relinked to_ws (slice_set spots e to) heads (slice_set new k (e + 1)) from (relaid chain hand rest e k) long
-        (linked_moves ws to_ws spots (length heads) hand from chain e rest to w.linked hl is (λ j lj. drawn_loose nexts heads chain home hand e rest w.chains hl is j lj) g (λ (q : k ≡ hand). omega (arith, q, kh)));
+          (linked_moves ws to_ws spots (length heads) hand from chain e rest to w.linked hl is (λ j lj. drawn_loose nexts heads chain home hand e rest w.chains hl is j lj) g (λ (q : k ≡ hand). omega (arith, q, kh)));
       long = length-set nexts e (slice_index_or new k 0) ∙ w.long ∙ sym (length-set spots e to);
       some = omega (arith, long, w.some);
     }
@@ -84,7 +86,7 @@ walked_on made seen spots heads new chain rest e k from ws long kh h slot lt =
 
 -- The visited constraint is satisfied.
 pub step_stays : (made more : List Made) (level : ℕ) (seen : List Literal) (ws : List Watching) (spots : List Spot) (nexts heads new : List ℕ) (from e : ℕ) → (walking : IsWalking made seen ws spots nexts heads from) → IsDrawn nexts heads new (hand_of heads) (Some e) → from < hand_of heads → Grows level made more → IsTop level more → Within (literals (below level made)) seen → IsSatisfied (literals more) (at_slot ws (spot_at spots e).owner).c →
-  IsWalking more seen ws spots (slice_set nexts e (slice_index_or new from 0)) (slice_set new from (e + 1)) from
+    IsWalking more seen ws spots (slice_set nexts e (slice_index_or new from 0)) (slice_set new from (e + 1)) from
 step_stays made more level seen ws spots nexts heads new from e s d fh g top fresh sat =
     let hand = hand_of heads in
     let l = left ws spots nexts heads new from s.chain s.home e s.wired d in
@@ -102,7 +104,7 @@ step_stays made more level seen ws spots nexts heads new from e s d fh g top fre
 
 -- The entry moves into another chain.
 pub step_moves : (made : List Made) (seen : List Literal) (ws to_ws : List Watching) (spots : List Spot) (nexts heads new : List ℕ) (from e : ℕ) (to : Spot) → (walking : IsWalking made seen ws spots nexts heads from) → IsDrawn nexts heads new (hand_of heads) (Some e) → Goes ws to_ws (spot_at spots e) to → is_open (literals made) (lit_of_spot ws to) ≡ true → code (lit_of_spot ws to) < hand_of heads → code (lit_of_spot ws to) ≢ from → Within seen (literals made) →
-  IsWalking made seen to_ws (slice_set spots e to) (slice_set nexts e (slice_index_or new (code (lit_of_spot ws to)) 0)) (slice_set new (code (lit_of_spot ws to)) (e + 1)) from
+    IsWalking made seen to_ws (slice_set spots e to) (slice_set nexts e (slice_index_or new (code (lit_of_spot ws to)) 0)) (slice_set new (code (lit_of_spot ws to)) (e + 1)) from
 step_moves made seen ws to_ws spots nexts heads new from e to s d g o kh kf w =
     let hand = hand_of heads in
     let k = code (lit_of_spot ws to) in
@@ -128,7 +130,7 @@ at_rest level made more seen spots rest from ws slot g top walked = elim walked 
 
 -- The walk stops at a conflict.
 pub step_stops : (made more : List Made) (level : ℕ) (seen : List Literal) (ws : List Watching) (spots : List Spot) (nexts heads new : List ℕ) (from e : ℕ) → (walking : IsWalking made seen ws spots nexts heads from) → IsDrawn nexts heads new (hand_of heads) (Some e) → from < hand_of heads → Grows level made more → IsTop level more →
-  IsStopped more seen ws spots (slice_set nexts e (slice_index_or new from 0)) (slice_set new from (e + 1)) from
+    IsStopped more seen ws spots (slice_set nexts e (slice_index_or new from 0)) (slice_set new from (e + 1)) from
 step_stops made more level seen ws spots nexts heads new from e s d fh g top =
     let hand = hand_of heads in
     let l = left ws spots nexts heads new from s.chain s.home e s.wired d in
@@ -152,7 +154,7 @@ step_done made seen ws spots nexts heads l s z =
 
 -- The hand grows less.
 pub step_less : (ws : List Watching) (spots : List Spot) (nexts heads new : List ℕ) (from k : ℕ) (chain : ℕ → List ℕ) (home : ℕ → ℕ) (e : ℕ) → IsWired ws spots nexts heads from chain home → IsDrawn nexts heads new (hand_of heads) (Some e) → k < hand_of heads →
-  count_from (slice_set nexts e (slice_index_or new k 0)) (length (slice_set nexts e (slice_index_or new k 0))) (slice_index_or (slice_set new k (e + 1)) (hand_of heads) 0) < count_from nexts (length nexts) (slice_index_or heads (hand_of heads) 0)
+    count_from (slice_set nexts e (slice_index_or new k 0)) (length (slice_set nexts e (slice_index_or new k 0))) (slice_index_or (slice_set new k (e + 1)) (hand_of heads) 0) < count_from nexts (length nexts) (slice_index_or heads (hand_of heads) 0)
 step_less ws spots nexts heads new from k chain home e w d kh =
     let hand = hand_of heads in
     let l = left ws spots nexts heads new from chain home e w d in

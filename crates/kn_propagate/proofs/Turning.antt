@@ -10,9 +10,9 @@ use Rattle.kn_logic.specs.Literals.{Literal}
 use Rattle.kn_logic.specs.Propagation.{is_open}
 use Rattle.kn_propagate.specs.declared.chains.Spot.{Spot}
 use Rattle.kn_propagate.specs.declared.slot.Slot.{Slot}
-use Rattle.kn_propagate.specs.declared.watched.Visit.{Visit}
-use Rattle.kn_propagate.specs.declared.watched.Visit.TheVariants as turned
-use Rattle.kn_propagate.specs.Watches.{listed, lit_at, IsTurn, IsMoved, IsSatisfied, IsForcing, IsConflicting, HasWatches}
+use Rattle.kn_watch.specs.declared.watched.Visit.{Visit}
+use Rattle.kn_watch.specs.declared.watched.Visit.TheVariants as turned
+use Rattle.kn_watch.specs.Watches.{listed, lit_at, IsTurn, IsMoved, IsSatisfied, IsForcing, IsConflicting, HasWatches}
 use Rattle.kn_propagate.specs.Chains.{Watching, seen_as, at_slot, lit_of_spot, IsTurned, IsKept, Goes, nothing, unwatched}
 
 abbrev a_watching : Option ℕ → Bounded → (ℕ → Bool) → Watching
@@ -74,19 +74,21 @@ module _ {W : Type 0} (bounded : W → Bounded) (watches : W → ℕ → Bool) w
   turned_seen trail xs i place x d (turned.Moved to) lt is c t =
       let new_w = λ (p : ℕ). ap (λ (w : Watching). w.watches p) (set_here xs i (after x d) lt) in
       let old_w = λ (p : ℕ). ap (λ (w : Watching). w.watches p) (seen_here xs i x lt is) in
-      let b = sym (c_here xs i x d lt is c) in
-      (record {
-        long = length-seen (slice_set xs i (after x d)) ∙ length-set xs i (after x d) ∙ sym (length-seen xs);
-        owner = refl;
-        same = λ j. c_same xs i x d j lt is c;
-        ids = λ j. id_same xs i x d j lt is;
-        others = λ j n. set_there xs i j (after x d) n;
-        within = subst (λ (z : Bounded). to < length (listed z)) b t.within;
-        released = new_w place ∙ t.released;
-        taken = new_w to ∙ t.taken;
-        fresh = old_w to ∙ t.fresh;
-        rest = λ p f g. new_w p ∙ t.others p f g ∙ sym (old_w p);
-      }, subst (λ (z : Bounded). is_open trail (lit_at (listed z) to) ≡ true) b t.open_)
+      let b = sym (c_here xs i x d lt is c) in (
+        record {
+          long = length-seen (slice_set xs i (after x d)) ∙ length-set xs i (after x d) ∙ sym (length-seen xs);
+          owner = refl;
+          same = λ j. c_same xs i x d j lt is c;
+          ids = λ j. id_same xs i x d j lt is;
+          others = λ j n. set_there xs i j (after x d) n;
+          within = subst (λ (z : Bounded). to < length (listed z)) b t.within;
+          released = new_w place ∙ t.released;
+          taken = new_w to ∙ t.taken;
+          fresh = old_w to ∙ t.fresh;
+          rest = λ p f g. new_w p ∙ t.others p f g ∙ sym (old_w p);
+        },
+        subst (λ (z : Bounded). is_open trail (lit_at (listed z) to) ≡ true) b t.open_,
+      )
 
   pub kept_seen : (vars : ℕ) (xs : List (Slot W)) (i : ℕ) (x : Slot W) (d : W) → i < length xs → x ≡ slice_index_or xs i x → bounded d ≡ bounded x.watch → IsKept vars (at_slot (seen_as bounded watches xs) i) → HasWatches (bounded d) (watches d) → IsKept vars (at_slot (seen_as bounded watches (slice_set xs i (after x d))) i)
   kept_seen vars xs i x d lt is c k h =

@@ -8,16 +8,18 @@ use Rattle.std.proofs.Math.ListN.{length-set}
 use Rattle.kn_logic.specs.Constraints.{Bounded, IsWithin}
 use Rattle.kn_logic.specs.Literals.{Literal, negated, is_same, has, IsKnown, AreKnown}
 use Rattle.kn_logic.specs.Propagation.{is_open}
-use Rattle.kn_propagate.specs.declared.trail.Made.{Made}
+use Rattle.kn_watch.specs.declared.trail.Made.{Made}
 use Rattle.kn_propagate.specs.declared.chains.Spot.{Spot}
-use Rattle.kn_propagate.specs.Trails.{Trailed, literals, below, lit_of, IsRising, IsTrail}
-use Rattle.kn_propagate.specs.Watches.{listed, unguarded, lit_at, NoneFalse, IsSatisfied, IsSettled}
-use Rattle.kn_propagate.specs.Chains.{Watching, at_slot, lit_of_spot, code, spot_at, Grows, Goes, IsDrawn, hand_of, IsWired, IsWalking, IsStopped, IsGrown, IsFresh, AreSame, IsIdle, with_home, count_from}
-use Rattle.kn_propagate.proofs.Within.{Within}
+use Rattle.kn_watch.specs.Trails.{Trailed, literals, below, lit_of, IsRising, IsTrail}
+use Rattle.kn_watch.specs.Watches.{listed, unguarded, lit_at, NoneFalse, IsSatisfied, IsSettled}
+use Rattle.kn_watch.specs.Trails.{Grows}
+use Rattle.kn_propagate.specs.Chains.{Watching, at_slot, lit_of_spot, code, spot_at, Goes, IsDrawn, hand_of, IsWired, IsWalking, IsStopped, IsGrown, IsFresh, AreSame, IsIdle, with_home, count_from}
+use Rattle.kn_watch.proofs.Public.{Within}
 use Rattle.kn_propagate.proofs.Relinking.{a_spot, relaid}
-use Rattle.kn_propagate.proofs.Growing.{IsTop, rising_top, below_grown, all_within_grown, append_assoc_made, code_one}
+use Rattle.kn_watch.proofs.Public.{IsTop, rising_top, below_grown, all_within_grown}
+use Rattle.kn_propagate.proofs.Resting.{append_assoc_made, code_one}
 use Rattle.kn_propagate.proofs.Steps.{IsEntry, step_stays, step_moves, step_stops, step_less, left, wired_stays}
-use Rattle.kn_propagate.proofs.TrailKeeps.{at-most}
+use Rattle.kn_watch.proofs.Public.{at-most}
 
 all_append : (level : ℕ) (a b : List Made) → AllByRecursion (λ m. m.level ≡ level) a → AllByRecursion (λ m. m.level ≡ level) b → AllByRecursion (λ m. m.level ≡ level) (a ++ b)
 all_append level [] b s t = t
@@ -27,9 +29,11 @@ pub grown_trans : (t u v : Trailed) → IsGrown t u → IsGrown u v → IsGrown 
 grown_trans t u v g h = record {
   vars = h.vars ∙ g.vars;
   level = h.level ∙ g.level;
-  grows = (g.grows.0 ++ h.grows.0,
+  grows = (
+    g.grows.0 ++ h.grows.0,
     h.grows.1 ∙ ap (λ (x : List Made). x ++ h.grows.0) g.grows.1 ∙ append_assoc_made t.made g.grows.0 h.grows.0,
-    all_append t.level g.grows.0 h.grows.0 g.grows.2 (subst (λ (n : ℕ). AllByRecursion (λ m. m.level ≡ n) h.grows.0) g.level h.grows.2));
+    all_append t.level g.grows.0 h.grows.0 g.grows.2 (subst (λ (n : ℕ). AllByRecursion (λ m. m.level ≡ n) h.grows.0) g.level h.grows.2),
+  );
   kept = h.kept;
 }
 
@@ -54,24 +58,24 @@ pub code_known : (vars : ℕ) (heads : List ℕ) (l : Literal) → IsKnown vars 
 code_known vars heads l k long = omega (arith, k.1, long, sign l.positive)
 
 pub walk_stays : (t u v : Trailed) (visited : ℕ) (ws new : List Watching) (spots : List Spot) (nexts heads nexts1 heads1 nexts2 heads2 : List ℕ) (from e : ℕ) (spot : Spot) → IsFresh t visited → IsGrown t u → IsGrown u v →
-  (walking : IsWalking u.made (take visited (literals t.made)) ws spots nexts heads from) → IsDrawn nexts heads heads1 (hand_of heads) (Some e) → IsEntry ws spots nexts from e spot → new ≡ ws → IsSatisfied (literals v.made) (at_slot ws spot.owner).c → from < hand_of heads →
-  nexts1 ≡ nexts → nexts2 ≡ slice_set nexts1 e (slice_index_or heads1 from 0) → heads2 ≡ slice_set heads1 from (e + 1) → IsWalking v.made (take visited (literals t.made)) new spots nexts2 heads2 from
+    (walking : IsWalking u.made (take visited (literals t.made)) ws spots nexts heads from) → IsDrawn nexts heads heads1 (hand_of heads) (Some e) → IsEntry ws spots nexts from e spot → new ≡ ws → IsSatisfied (literals v.made) (at_slot ws spot.owner).c → from < hand_of heads →
+    nexts1 ≡ nexts → nexts2 ≡ slice_set nexts1 e (slice_index_or heads1 from 0) → heads2 ≡ slice_set heads1 from (e + 1) → IsWalking v.made (take visited (literals t.made)) new spots nexts2 heads2 from
 walk_stays t u v visited ws new spots nexts heads nexts1 heads1 nexts2 heads2 from e spot f g h s d entry same sat fh a b c =
     let done = step_stays u.made v.made u.level (take visited (literals t.made)) ws spots nexts heads heads1 from e s d fh h.grows (top_of u v h) (fresh_on t u visited f g) (subst (λ (z : Spot). IsSatisfied (literals v.made) (at_slot ws z.owner).c) (sym entry.here) sat) in
     let n2 : nexts2 ≡ slice_set nexts e (slice_index_or heads1 from 0) = b ∙ ap (λ (xs : List ℕ). slice_set xs e (slice_index_or heads1 from 0)) a in
     subst (λ (x : List Watching). IsWalking v.made (take visited (literals t.made)) x spots nexts2 heads2 from) (sym same)
-      (subst (λ (x : List ℕ). IsWalking v.made (take visited (literals t.made)) ws spots x heads2 from) (sym n2)
-        (subst (λ (x : List ℕ). IsWalking v.made (take visited (literals t.made)) ws spots (slice_set nexts e (slice_index_or heads1 from 0)) x from) (sym c) done))
+    (subst (λ (x : List ℕ). IsWalking v.made (take visited (literals t.made)) ws spots x heads2 from) (sym n2)
+    (subst (λ (x : List ℕ). IsWalking v.made (take visited (literals t.made)) ws spots (slice_set nexts e (slice_index_or heads1 from 0)) x from) (sym c) done))
 
 pub walk_stops : (t u v : Trailed) (visited : ℕ) (ws new : List Watching) (spots : List Spot) (nexts heads nexts1 heads1 nexts2 heads2 : List ℕ) (from e : ℕ) → IsGrown u v →
-  (walking : IsWalking u.made (take visited (literals t.made)) ws spots nexts heads from) → IsDrawn nexts heads heads1 (hand_of heads) (Some e) → new ≡ ws → from < hand_of heads →
-  nexts1 ≡ nexts → nexts2 ≡ slice_set nexts1 e (slice_index_or heads1 from 0) → heads2 ≡ slice_set heads1 from (e + 1) → IsStopped v.made (take visited (literals t.made)) new spots nexts2 heads2 from
+    (walking : IsWalking u.made (take visited (literals t.made)) ws spots nexts heads from) → IsDrawn nexts heads heads1 (hand_of heads) (Some e) → new ≡ ws → from < hand_of heads →
+    nexts1 ≡ nexts → nexts2 ≡ slice_set nexts1 e (slice_index_or heads1 from 0) → heads2 ≡ slice_set heads1 from (e + 1) → IsStopped v.made (take visited (literals t.made)) new spots nexts2 heads2 from
 walk_stops t u v visited ws new spots nexts heads nexts1 heads1 nexts2 heads2 from e h s d same fh a b c =
     let done = step_stops u.made v.made u.level (take visited (literals t.made)) ws spots nexts heads heads1 from e s d fh h.grows (top_of u v h) in
     let n2 : nexts2 ≡ slice_set nexts e (slice_index_or heads1 from 0) = b ∙ ap (λ (xs : List ℕ). slice_set xs e (slice_index_or heads1 from 0)) a in
     subst (λ (x : List Watching). IsStopped v.made (take visited (literals t.made)) x spots nexts2 heads2 from) (sym same)
-      (subst (λ (x : List ℕ). IsStopped v.made (take visited (literals t.made)) ws spots x heads2 from) (sym n2)
-        (subst (λ (x : List ℕ). IsStopped v.made (take visited (literals t.made)) ws spots (slice_set nexts e (slice_index_or heads1 from 0)) x from) (sym c) done))
+    (subst (λ (x : List ℕ). IsStopped v.made (take visited (literals t.made)) ws spots x heads2 from) (sym n2)
+    (subst (λ (x : List ℕ). IsStopped v.made (take visited (literals t.made)) ws spots (slice_set nexts e (slice_index_or heads1 from 0)) x from) (sym c) done))
 
 pub has_take : (n : ℕ) (lits : List Literal) (l : Literal) → has (take n lits) l ≡ true → has lits l ≡ true
 has_take zero [] l h = absurd cc
@@ -90,9 +94,9 @@ apart trail ws to spot from o f q r =
     absurd cc
 
 pub walk_moves : (t u v : Trailed) (visited : ℕ) (ws new : List Watching) (spots spots2 : List Spot) (nexts heads nexts1 heads1 nexts2 heads2 : List ℕ) (from k e place : ℕ) (spot : Spot) → IsGrown t u → v ≡ u →
-  (walking : IsWalking u.made (take visited (literals t.made)) ws spots nexts heads from) → IsDrawn nexts heads heads1 (hand_of heads) (Some e) → IsEntry ws spots nexts from e spot →
-  Goes ws new spot (a_spot spot.owner place) → is_open (literals u.made) (lit_of_spot ws (a_spot spot.owner place)) ≡ true → is_open (literals u.made) (lit_of_spot ws spot) ≡ false → k ≡ code (lit_of_spot ws (a_spot spot.owner place)) → k < hand_of heads →
-  spots2 ≡ slice_set spots e (a_spot spot.owner place) → nexts1 ≡ nexts → nexts2 ≡ slice_set nexts1 e (slice_index_or heads1 k 0) → heads2 ≡ slice_set heads1 k (e + 1) → IsWalking v.made (take visited (literals t.made)) new spots2 nexts2 heads2 from
+    (walking : IsWalking u.made (take visited (literals t.made)) ws spots nexts heads from) → IsDrawn nexts heads heads1 (hand_of heads) (Some e) → IsEntry ws spots nexts from e spot →
+    Goes ws new spot (a_spot spot.owner place) → is_open (literals u.made) (lit_of_spot ws (a_spot spot.owner place)) ≡ true → is_open (literals u.made) (lit_of_spot ws spot) ≡ false → k ≡ code (lit_of_spot ws (a_spot spot.owner place)) → k < hand_of heads →
+    spots2 ≡ slice_set spots e (a_spot spot.owner place) → nexts1 ≡ nexts → nexts2 ≡ slice_set nexts1 e (slice_index_or heads1 k 0) → heads2 ≡ slice_set heads1 k (e + 1) → IsWalking v.made (take visited (literals t.made)) new spots2 nexts2 heads2 from
 walk_moves t u v visited ws new spots spots2 nexts heads nexts1 heads1 nexts2 heads2 from k e place spot g same s d entry goes o f kq kh sp a b c =
     let to = a_spot spot.owner place in
     let seen = take visited (literals t.made) in
@@ -103,9 +107,9 @@ walk_moves t u v visited ws new spots spots2 nexts heads nexts1 heads1 nexts2 he
     let n2 : nexts2 ≡ slice_set nexts e (slice_index_or heads1 (code (lit_of_spot ws to)) 0) = b ∙ ap (λ (xs : List ℕ). slice_set xs e (slice_index_or heads1 k 0)) a ∙ ap (λ (n : ℕ). slice_set nexts e (slice_index_or heads1 n 0)) kq in
     let h2 : heads2 ≡ slice_set heads1 (code (lit_of_spot ws to)) (e + 1) = c ∙ ap (λ (n : ℕ). slice_set heads1 n (e + 1)) kq in
     subst (λ (x : Trailed). IsWalking x.made seen new spots2 nexts2 heads2 from) (sym same)
-      (subst (λ (x : List Spot). IsWalking u.made seen new x nexts2 heads2 from) (sym sp)
-        (subst (λ (x : List ℕ). IsWalking u.made seen new (slice_set spots e to) x heads2 from) (sym n2)
-          (subst (λ (x : List ℕ). IsWalking u.made seen new (slice_set spots e to) (slice_set nexts e (slice_index_or heads1 (code (lit_of_spot ws to)) 0)) x from) (sym h2) done)))
+    (subst (λ (x : List Spot). IsWalking u.made seen new x nexts2 heads2 from) (sym sp)
+    (subst (λ (x : List ℕ). IsWalking u.made seen new (slice_set spots e to) x heads2 from) (sym n2)
+    (subst (λ (x : List ℕ). IsWalking u.made seen new (slice_set spots e to) (slice_set nexts e (slice_index_or heads1 (code (lit_of_spot ws to)) 0)) x from) (sym h2) done)))
 
 -- the same spots
 pub walking_at : (made : List Made) (seen : List Literal) (ws : List Watching) (spots spots2 : List Spot) (nexts heads : List ℕ) (from : ℕ) → spots2 ≡ spots → IsWalking made seen ws spots nexts heads from → IsWalking made seen ws spots2 nexts heads from
@@ -115,15 +119,15 @@ pub stopped_at : (made : List Made) (seen : List Literal) (ws : List Watching) (
 stopped_at made seen ws spots spots2 nexts heads from e w = subst (λ (x : List Spot). IsStopped made seen ws x nexts heads from) (sym e) w
 
 pub walk_less : (ws : List Watching) (spots : List Spot) (nexts heads nexts1 heads1 nexts2 heads2 : List ℕ) (from k : ℕ) (chain : ℕ → List ℕ) (home : ℕ → ℕ) (e : ℕ) → IsWired ws spots nexts heads from chain home → IsDrawn nexts heads heads1 (hand_of heads) (Some e) → k < hand_of heads →
-  nexts1 ≡ nexts → nexts2 ≡ slice_set nexts1 e (slice_index_or heads1 k 0) → heads2 ≡ slice_set heads1 k (e + 1) →
-  count_from nexts2 (length nexts2) (slice_index_or heads2 (hand_of heads2) 0) < count_from nexts (length nexts) (slice_index_or heads (hand_of heads) 0)
+    nexts1 ≡ nexts → nexts2 ≡ slice_set nexts1 e (slice_index_or heads1 k 0) → heads2 ≡ slice_set heads1 k (e + 1) →
+    count_from nexts2 (length nexts2) (slice_index_or heads2 (hand_of heads2) 0) < count_from nexts (length nexts) (slice_index_or heads (hand_of heads) 0)
 walk_less ws spots nexts heads nexts1 heads1 nexts2 heads2 from k chain home e w d kh a b c =
     let n2 : nexts2 ≡ slice_set nexts e (slice_index_or heads1 k 0) = b ∙ ap (λ (xs : List ℕ). slice_set xs e (slice_index_or heads1 k 0)) a in
     let long : length heads2 ≡ length heads = ap (λ (xs : List ℕ). length xs) c ∙ length-set heads1 k (e + 1) ∙ ap (λ (xs : List ℕ). length xs) d.1 ∙ length-set heads (hand_of heads) (slice_index_or nexts e 0) in
     let less = step_less ws spots nexts heads heads1 from k chain home e w d kh in
     subst (λ (n : ℕ). count_from nexts2 (length nexts2) (slice_index_or heads2 (n - 1) 0) < count_from nexts (length nexts) (slice_index_or heads (hand_of heads) 0)) (sym long)
-      (subst (λ (x : List ℕ). count_from x (length x) (slice_index_or heads2 (hand_of heads) 0) < count_from nexts (length nexts) (slice_index_or heads (hand_of heads) 0)) (sym n2)
-        (subst (λ (x : List ℕ). count_from (slice_set nexts e (slice_index_or heads1 k 0)) (length (slice_set nexts e (slice_index_or heads1 k 0))) (slice_index_or x (hand_of heads) 0) < count_from nexts (length nexts) (slice_index_or heads (hand_of heads) 0)) (sym c) less))
+    (subst (λ (x : List ℕ). count_from x (length x) (slice_index_or heads2 (hand_of heads) 0) < count_from nexts (length nexts) (slice_index_or heads (hand_of heads) 0)) (sym n2)
+    (subst (λ (x : List ℕ). count_from (slice_set nexts e (slice_index_or heads1 k 0)) (length (slice_set nexts e (slice_index_or heads1 k 0))) (slice_index_or x (hand_of heads) 0) < count_from nexts (length nexts) (slice_index_or heads (hand_of heads) 0)) (sym c) less))
 
 pub long_kept : (nexts heads heads1 heads2 : List ℕ) (k e n : ℕ) → length heads ≡ n → IsDrawn nexts heads heads1 (hand_of heads) (Some e) → heads2 ≡ slice_set heads1 k (e + 1) → length heads2 ≡ n
 long_kept nexts heads heads1 heads2 k e n q d c = ap (λ (xs : List ℕ). length xs) c ∙ length-set heads1 k (e + 1) ∙ ap (λ (xs : List ℕ). length xs) d.1 ∙ length-set heads (hand_of heads) (slice_index_or nexts e 0) ∙ q
@@ -187,7 +191,7 @@ literals_push u v m is = ap (λ (x : Trailed). literals x.made) is ∙ map-appen
 
 -- An entry goes back from the hand.
 pub restore_step : (made : List Made) (seen : List Literal) (ws : List Watching) (spots : List Spot) (nexts heads nexts1 heads1 nexts2 heads2 : List ℕ) (from e : ℕ) → (stopped : IsStopped made seen ws spots nexts heads from) → IsDrawn nexts heads heads1 (hand_of heads) (Some e) → from < hand_of heads →
-  nexts1 ≡ nexts → nexts2 ≡ slice_set nexts1 e (slice_index_or heads1 from 0) → heads2 ≡ slice_set heads1 from (e + 1) → IsStopped made seen ws spots nexts2 heads2 from
+    nexts1 ≡ nexts → nexts2 ≡ slice_set nexts1 e (slice_index_or heads1 from 0) → heads2 ≡ slice_set heads1 from (e + 1) → IsStopped made seen ws spots nexts2 heads2 from
 restore_step made seen ws spots nexts heads nexts1 heads1 nexts2 heads2 from e s d fh a b c =
     let l = left ws spots nexts heads heads1 from s.chain s.home e s.wired d in
     let done : IsStopped made seen ws spots (slice_set nexts e (slice_index_or heads1 from 0)) (slice_set heads1 from (e + 1)) from = record {
@@ -198,7 +202,7 @@ restore_step made seen ws spots nexts heads nexts1 heads1 nexts2 heads2 from e s
     } in
     let n2 : nexts2 ≡ slice_set nexts e (slice_index_or heads1 from 0) = b ∙ ap (λ (xs : List ℕ). slice_set xs e (slice_index_or heads1 from 0)) a in
     subst (λ (x : List ℕ). IsStopped made seen ws spots x heads2 from) (sym n2)
-      (subst (λ (x : List ℕ). IsStopped made seen ws spots (slice_set nexts e (slice_index_or heads1 from 0)) x from) (sym c) done)
+    (subst (λ (x : List ℕ). IsStopped made seen ws spots (slice_set nexts e (slice_index_or heads1 from 0)) x from) (sym c) done)
 
 pub idle_now : (made : List Made) (seen : List Literal) (ws : List Watching) (spots : List Spot) (nexts heads nexts1 heads1 : List ℕ) (from : ℕ) → (stopped : IsStopped made seen ws spots nexts heads from) → IsDrawn nexts heads heads1 (hand_of heads) None → nexts1 ≡ nexts → IsIdle made seen ws spots nexts1 heads1
 idle_now made seen ws spots nexts heads nexts1 heads1 from s d a =

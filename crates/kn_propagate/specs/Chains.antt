@@ -5,17 +5,17 @@ use Rattle.std.specs.List.{list_any, AllByRecursion}
 use Rattle.kn_logic.specs.Literals.{Literal, negated, has}
 use Rattle.kn_logic.specs.Constraints.{Bounded, IsWithin, klause}
 use Rattle.kn_logic.specs.Propagation.{is_open, Forces}
-use Rattle.kn_propagate.specs.declared.trail.Made.{Made}
+use Rattle.kn_watch.specs.declared.trail.Made.{Made}
 use Rattle.kn_propagate.specs.declared.chains.Spot.{Spot}
 use Rattle.kn_propagate.specs.declared.slot.Slot.{Slot}
 use Rattle.kn_propagate.specs.declared.slot.Held.{Held}
 use Rattle.kn_propagate.specs.declared.slot.Held.TheVariants.{Clause, Klause, Free}
-use Rattle.kn_propagate.specs.declared.watched.Visit.{Visit}
-use Rattle.kn_propagate.specs.declared.watched.Visit.TheVariants as turned
+use Rattle.kn_watch.specs.declared.watched.Visit.{Visit}
+use Rattle.kn_watch.specs.declared.watched.Visit.TheVariants as turned
 use Rattle.kn_propagate.specs.declared.visiting.Effect.{Effect}
 use Rattle.kn_propagate.specs.declared.visiting.Effect.TheVariants.{Stays, Moved, Conflict}
-use Rattle.kn_propagate.specs.Trails.{Trailed, literals, below, IsTrail}
-use Rattle.kn_propagate.specs.Watches.{listed, lit_at, NoneFalse, IsSettled, IsSatisfied, IsConflicting, IsForced, IsForcing, HasWatches, IsBroad, QuietLaw, IsMoved}
+use Rattle.kn_watch.specs.Trails.{Trailed, literals, below, IsTrail, Grows}
+use Rattle.kn_watch.specs.Watches.{listed, lit_at, NoneFalse, IsSettled, IsSatisfied, IsConflicting, IsForced, IsForcing, HasWatches, IsBroad, QuietLaw, IsMoved}
 
 -- a constraint as it is watched, with its id; none in a slot that is free
 pub record Watching : Type 0 where
@@ -99,7 +99,7 @@ pub record AreLinked (ws : List Watching) (spots : List Spot) (count hand from :
   pub coded : (k e : ℕ) → k < count → is_in e (chain k) ≡ true → code (lit_of_spot ws (spot_at spots e)) ≡ (if k == hand then from else k)
   pub apart : (j k d e : ℕ) → j < count → k < count → is_in d (chain j) ≡ true → is_in e (chain k) ≡ true → spot_at spots d ≡ spot_at spots e → d ≡ e
   pub all : (slot place : ℕ) → slot < length ws → place < length (listed (at_slot ws slot).c) → (at_slot ws slot).watches place ≡ true →
-    (e : ℕ) × (spot_at spots e ≡ record { owner = slot; place = place })
+      (e : ℕ) × (spot_at spots e ≡ record { owner = slot; place = place })
       × ((is_in e (chain (code (lit_at (listed (at_slot ws slot).c) place))) ≡ true) ⊎ ((code (lit_at (listed (at_slot ws slot).c) place) ≡ from) × (is_in e (chain hand) ≡ true)))
 
 -- While a chain is walked: a constraint is settled, or none of the literals that were visited before is watched
@@ -108,12 +108,8 @@ abbrev pub IsWalked : List Made → List Literal → List Spot → List ℕ → 
 IsWalked made seen spots rest from ws slot =
     IsSettled made (at_slot ws slot).c (at_slot ws slot).watches
     ⊎ (NoneFalse seen (at_slot ws slot).c (at_slot ws slot).watches
-       × ((place : ℕ) → place < length (listed (at_slot ws slot).c) → (at_slot ws slot).watches place ≡ true → code (lit_at (listed (at_slot ws slot).c) place) ≡ from →
-            (e : ℕ) × (spot_at spots e ≡ record { owner = slot; place = place }) × (is_in e rest ≡ true)))
-
--- the trail with more literals, all of this level
-abbrev pub Grows : ℕ → List Made → List Made → Type 0
-Grows level made new = (more : List Made) × (new ≡ made ++ more) × AllByRecursion (λ m. m.level ≡ level) more
+    × ((place : ℕ) → place < length (listed (at_slot ws slot).c) → (at_slot ws slot).watches place ≡ true → code (lit_at (listed (at_slot ws slot).c) place) ≡ from →
+    (e : ℕ) × (spot_at spots e ≡ record { owner = slot; place = place }) × (is_in e rest ≡ true)))
 
 -- the first entry of a chain was taken out
 abbrev pub IsDrawn : List ℕ → List ℕ → List ℕ → ℕ → Option ℕ → Type 0

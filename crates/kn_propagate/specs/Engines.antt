@@ -4,10 +4,10 @@ use Rattle.std.specs.List.{AllByRecursion}
 use Rattle.kn_logic.specs.Literals.{AreKnown, AreDifferent}
 use Rattle.kn_logic.specs.Constraints.{Bounded, IsWithin}
 use Rattle.kn_logic.specs.Propagation.{IsClosed, after_hint, Forces}
-use Rattle.kn_propagate.specs.declared.trail.Made.{Made}
+use Rattle.kn_watch.specs.declared.trail.Made.{Made}
 use Rattle.kn_propagate.specs.declared.step.Step.{Step}
 use Rattle.kn_propagate.specs.declared.step.Step.TheVariants.{Closed, Conflict}
-use Rattle.kn_propagate.specs.Trails.{Trailed, literals, below, IsRising}
+use Rattle.kn_watch.specs.Trails.{Trailed, literals, below, IsRising}
 
 -- a live constraint
 pub record Live : Type 0 where

@@ -3,11 +3,11 @@ use Rattle.std.specs.Prelude.{ℕ, ◌≡◌, ◌≤◌, ◌<◌, ◌+◌, ◌*�
 use Rattle.kn_logic.specs.Constraints.{Bounded}
 use Rattle.kn_logic.specs.Literals.{Literal}
 use Rattle.kn_logic.specs.Propagation.{IsShort}
-use Rattle.kn_propagate.specs.declared.trail.Made.{Made}
+use Rattle.kn_watch.specs.declared.trail.Made.{Made}
 use Rattle.kn_propagate.specs.declared.step.Step.{Step}
 use Rattle.kn_propagate.specs.declared.step.Step.TheVariants.{Closed, Conflict}
-use Rattle.kn_propagate.specs.Trails.{Trailed, literals, below}
-use Rattle.kn_propagate.specs.Watches.{IsConflicting}
+use Rattle.kn_watch.specs.Trails.{Trailed, literals, below}
+use Rattle.kn_watch.specs.Watches.{IsConflicting}
 use Rattle.kn_propagate.specs.Chains.{Watching, Chained, at_slot, AreKept, IsFresh, IsIdle, HasReason}
 use Rattle.kn_propagate.specs.Engines.{Live}
 

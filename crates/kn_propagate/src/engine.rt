@@ -2,8 +2,8 @@
 ghost use Rattle.std.specs.Prelude.{◌≡◌, ◌≤◌, ◌<◌, ◌+◌, ◌-◌, ◌*◌, ◌^◌, ◌++◌, ◌∷◌, Some, None, [], false, length, IfOk, option_map};
 ghost use Rattle.kn_logic.specs.Literals.{IsKnown, names};
 ghost use Rattle.kn_logic.specs.Constraints.{Bounded};
-ghost use Rattle.kn_propagate.specs.Trails.{literals, below};
-ghost use Rattle.kn_propagate.specs.Watches.{listed};
+ghost use Rattle.kn_watch.specs.Trails.{literals, below};
+ghost use Rattle.kn_watch.specs.Watches.{listed};
 ghost use Rattle.kn_propagate.specs.declared.step.Step.TheVariants.{Closed, Conflict};
 ghost use Rattle.kn_propagate.specs.Engines.{live_in, IsEngine};
 ghost use Rattle.kn_propagate.specs.Chains.{IsGrown};
@@ -11,8 +11,9 @@ ghost use Rattle.kn_propagate.specs.Chains.{IsGrown};
 use crate::chains::Chains;
 use crate::slot::{Held, Slot};
 use crate::walking::propagate;
-use crate::{NoMemory, Step, Trail, Watched};
+use crate::{NoMemory, Step};
 use kn_logic::Lit;
+use kn_watch::{Trail, Watched};
 use std::alloc::Global;
 use std::marker::Model;
 

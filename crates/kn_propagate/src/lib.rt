@@ -4,20 +4,14 @@
 
 mod chains;
 mod engine;
-mod looking;
 mod slot;
 mod step;
-mod trail;
 mod visiting;
 mod walking;
-mod watched;
 
 pub use engine::Engine;
-pub use looking::{forced, is_conflicting};
-pub use step::Step;
-pub use trail::{Made, Trail};
-pub use watched::{Visit, Watched};
 use std::alloc::AllocError;
+pub use step::Step;
 
 /// Want of memory.
 pub type NoMemory = AllocError;

@@ -3,12 +3,12 @@ ghost use Rattle.std.specs.Prelude.{◌≡◌, ◌<◌, ℕ, Bool, true, length}
 ghost use Rattle.std.specs.Option.{is_some};
 ghost use Rattle.kn_logic.specs.Constraints.{Bounded, IsWithin};
 ghost use Rattle.kn_logic.specs.Propagation.{is_open};
-ghost use Rattle.kn_propagate.specs.Trails.{literals};
-ghost use Rattle.kn_propagate.specs.Watches.{listed, lit_at, HasWatches, QuietLaw, IsTurn, IsStart};
-ghost use Rattle.kn_propagate.specs.Quiet.{quiet_law};
+ghost use Rattle.kn_watch.specs.Trails.{literals};
+ghost use Rattle.kn_watch.specs.Watches.{listed, lit_at, HasWatches, QuietLaw, IsTurn, IsStart};
+ghost use Rattle.kn_watch.specs.Quiet.{quiet_law};
 
-use crate::{Trail, Visit, Watched};
 use kn_logic::Lit;
+use kn_watch::{Trail, Visit, Watched};
 
 /// A constraint with its id. A slot without one is free.
 #[derive(Debug, Drop)]

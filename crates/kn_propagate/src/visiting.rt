@@ -2,13 +2,13 @@
 ghost use Rattle.std.specs.Prelude.{◌≡◌, ◌<◌, true, false, length, IsTrue};
 ghost use Rattle.kn_logic.specs.Constraints.{IsWithin};
 ghost use Rattle.kn_logic.specs.Propagation.{is_open};
-ghost use Rattle.kn_propagate.specs.Trails.{literals, IsTrail};
-ghost use Rattle.kn_propagate.specs.Watches.{listed, IsForcing, IsSatisfied, IsConflicting};
+ghost use Rattle.kn_watch.specs.Trails.{literals, IsTrail};
+ghost use Rattle.kn_watch.specs.Watches.{listed, IsForcing, IsSatisfied, IsConflicting};
 ghost use Rattle.kn_propagate.specs.Chains.{seen_as, at_slot, lit_of_spot, AreKept, IsKept, IsTurned, AreSame, IsGrown, AreForcedBy, AreReasoned, IsVisited};
 
 use crate::chains::Spot;
 use crate::slot::Slot;
-use crate::{forced, is_conflicting, Trail, Visit, Watched};
+use kn_watch::{Trail, Visit, Watched, forced, is_conflicting};
 
 /// What the visit of an entry did.
 #[derive(Clone, Copy, Debug)]
@@ -83,4 +83,3 @@ pub fn visit<W: Watched>(slots: &mut Vec<Slot<W>>, spot: Spot, trail: &mut Trail
         }
     }
 }
-

@@ -1,14 +1,14 @@
 //! Propagation: each literal that became true is visited once, by a walk along the chain of its negation.
 ghost use Rattle.std.specs.Prelude.{◌≡◌, ◌≤◌, ◌<◌, ◌+◌, ◌*◌, ◌^◌, length, slice_index_or, IfSome, IfNone, take};
 ghost use Rattle.kn_logic.specs.Literals.{negated};
-ghost use Rattle.kn_propagate.specs.Trails.{literals, lit_of};
-ghost use Rattle.kn_propagate.specs.Watches.{listed, lit_at, IsConflicting};
+ghost use Rattle.kn_watch.specs.Trails.{literals, lit_of};
+ghost use Rattle.kn_watch.specs.Watches.{listed, lit_at, IsConflicting};
 ghost use Rattle.kn_propagate.specs.Chains.{seen_as, at_slot, code, AreKept, IsWalking, IsStopped, AreSame, IsGrown, AreReasoned, AreSpared, IsFresh, IsIdle, hand_of};
 
-use crate::chains::{code, Chains, Spot};
+use crate::chains::{Chains, Spot, code};
 use crate::slot::Slot;
-use crate::visiting::{visit, Effect};
-use crate::{Trail, Watched};
+use crate::visiting::{Effect, visit};
+use kn_watch::{Trail, Watched};
 
 /// The number of the chain of the literal at a place.
 fn code_at<W: Watched>(slots: &Vec<Slot<W>>, owner: usize, place: usize) -> usize
@@ -23,7 +23,12 @@ fn code_at<W: Watched>(slots: &Vec<Slot<W>>, owner: usize, place: usize) -> usiz
 
 /// Walks along what the hand holds of the chain of a literal that became false. The owner of the entry at which
 /// the walk stopped, if it met a conflict.
-fn walk<W: Watched>(slots: &mut Vec<Slot<W>>, chains: &mut Chains, trail: &mut Trail, visited: usize) -> Option<usize>
+fn walk<W: Watched>(
+    slots: &mut Vec<Slot<W>>,
+    chains: &mut Chains,
+    trail: &mut Trail,
+    visited: usize,
+) -> Option<usize>
     requires small { trail.old.vars < 2 ^ 32 }
     requires sized { length chains.old.heads ≡ 2 * trail.old.vars + 3 }
     requires visited { visited < length trail.old.made }
@@ -48,7 +53,14 @@ fn walk<W: Watched>(slots: &mut Vec<Slot<W>>, chains: &mut Chains, trail: &mut T
             Effect::Stays => chains.lay(from, entry),
             Effect::Moved(place) => {
                 let to = code_at(slots, spot.owner, place);
-                chains.lay_at(to, entry, Spot { owner: spot.owner, place });
+                chains.lay_at(
+                    to,
+                    entry,
+                    Spot {
+                        owner: spot.owner,
+                        place,
+                    },
+                );
             }
             Effect::Conflict => {
                 chains.lay(from, entry);
@@ -60,7 +72,13 @@ fn walk<W: Watched>(slots: &mut Vec<Slot<W>>, chains: &mut Chains, trail: &mut T
 }
 
 /// Puts what the hand holds back into its chain.
-fn restore<W: Watched>(slots: &Vec<Slot<W>>, chains: &mut Chains, trail: &Trail, visited: usize, from: usize)
+fn restore<W: Watched>(
+    slots: &Vec<Slot<W>>,
+    chains: &mut Chains,
+    trail: &Trail,
+    visited: usize,
+    from: usize,
+)
     requires from { from < hand_of chains.old.heads }
     requires stopped { IsStopped trail.now.made (take visited (literals trail.now.made)) (seen_as W.bounded W.watches slots.now.items) chains.old.spots chains.old.nexts chains.old.heads from }
     ensures idle { IsIdle trail.now.made (take visited (literals trail.now.made)) (seen_as W.bounded W.watches slots.now.items) chains.new.spots chains.new.nexts chains.new.heads }
@@ -73,7 +91,12 @@ fn restore<W: Watched>(slots: &Vec<Slot<W>>, chains: &mut Chains, trail: &Trail,
 }
 
 /// Visits each literal that was not visited yet. The slot of a constraint in conflict, at which it stopped.
-pub fn propagate<W: Watched>(slots: &mut Vec<Slot<W>>, chains: &mut Chains, trail: &mut Trail, visited: &mut usize) -> Option<usize>
+pub fn propagate<W: Watched>(
+    slots: &mut Vec<Slot<W>>,
+    chains: &mut Chains,
+    trail: &mut Trail,
+    visited: &mut usize,
+) -> Option<usize>
     requires small { trail.old.vars < 2 ^ 32 }
     requires sized { length chains.old.heads ≡ 2 * trail.old.vars + 3 }
     requires visited { visited.old ≤ length trail.old.made }

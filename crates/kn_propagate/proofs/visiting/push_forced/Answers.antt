@@ -5,13 +5,13 @@ use Rattle.std.proofs.lemmas.List.{get_or_read}
 use Rattle.kn_logic.specs.Literals.{Literal, names}
 use Rattle.kn_logic.specs.Constraints.{Bounded}
 use Rattle.kn_logic.specs.Propagation.{Forces}
-use Rattle.kn_propagate.specs.declared.trail.Made.{Made}
-use Rattle.kn_propagate.specs.Trails.{Trailed, literals, IsTrail}
-use Rattle.kn_propagate.specs.Watches.{listed, lit_at, IsForced, IsSatisfied}
+use Rattle.kn_watch.specs.declared.trail.Made.{Made}
+use Rattle.kn_watch.specs.Trails.{Trailed, literals, IsTrail}
+use Rattle.kn_watch.specs.Watches.{listed, lit_at, IsForced, IsSatisfied}
 use Rattle.kn_propagate.specs.Chains.{IsGrown, AreForcedBy}
-use Rattle.kn_propagate.proofs.Growing.{grown_same}
-use Rattle.kn_propagate.proofs.TrailKeeps.{names_unset, consistent_of}
-use Rattle.kn_propagate.proofs.Forcing.{IsForcedTo, forced_first, not_forced, now_forced, forced_all}
+use Rattle.kn_propagate.proofs.Resting.{grown_same}
+use Rattle.kn_watch.proofs.Public.{names_unset, consistent_of}
+use Rattle.kn_watch.proofs.Public.{IsForcedTo, forced_first, not_forced, now_forced, forced_all}
 use Rattle.kn_propagate.proofs.Reasons.{forces, forced_none, forced_push}
 use Rattle.kn_propagate.proofs.Walks.{grown_push, literals_push}
 use Rattle.kn_propagate.proofs.visiting.push_forced.Goals as goal
@@ -26,10 +26,11 @@ abbrev Kept : Trailed → Trailed → ℕ → Bounded → ℕ → Type 0
 Kept t u id c place = (IsGrown t u) × (AreForcedBy id c t.made u.made) × (IsForcedTo (literals u.made) c place)
 
 after_push : (t u v : Trailed) (id : ℕ) (c : Bounded) (place : ℕ) (m : Made) → IsGrown t u → AreForcedBy id c t.made u.made → v ≡ (record u { made = u.made ++ m ∷ [] }) → m.level ≡ u.level → m.reason ≡ Some id → m.lit ≡ lit_at (listed c) place → IsTrail v → place < length (listed c) → IsForced (literals u.made) c place → IsForcedTo (literals u.made) c place → Kept t v id c (place + 1)
-after_push t u v id c place m g fb is e r l k lt f to =
-    (grown_push t u v m g is e k,
-     forced_push id c t.made u v m is r (subst (Forces (literals u.made) c) (sym l) (forces (literals u.made) c place lt f)) fb,
-     subst (λ (x : List Literal). IsForcedTo x c (place + 1)) (sym (literals_push u v m is ∙ ap (λ (z : Literal). literals u.made ++ z ∷ []) l)) (now_forced (literals u.made) c place (consistent_of u g.kept) lt f to))
+after_push t u v id c place m g fb is e r l k lt f to = (
+  grown_push t u v m g is e k,
+  forced_push id c t.made u v m is r (subst (Forces (literals u.made) c) (sym l) (forces (literals u.made) c place lt f)) fb,
+  subst (λ (x : List Literal). IsForcedTo x c (place + 1)) (sym (literals_push u v m is ∙ ap (λ (z : Literal). literals u.made ++ z ∷ []) l)) (now_forced (literals u.made) c place (consistent_of u g.kept) lt f to),
+)
 
 pub loop-place-init : goal.loop-place-init
 loop-place-init g c = record {

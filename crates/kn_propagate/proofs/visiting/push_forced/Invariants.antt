@@ -1,7 +1,7 @@
 use Rattle.std.proofs.Common.{◌≡◌}
-use Rattle.kn_propagate.specs.Trails.{literals}
+use Rattle.kn_watch.specs.Trails.{literals}
 use Rattle.kn_propagate.specs.Chains.{IsGrown, AreForcedBy}
-use Rattle.kn_propagate.proofs.Forcing.{IsForcedTo}
+use Rattle.kn_watch.proofs.Public.{IsForcedTo}
 use Rattle.kn_propagate.proofs.visiting.push_forced.Given as goal
 
 abbrev pub invariant-loop-place : goal.invariant-loop-place

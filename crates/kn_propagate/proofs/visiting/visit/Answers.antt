@@ -2,7 +2,7 @@ use Rattle.std.proofs.Common.{◌≡◌, ◌<◌, ℕ, length, ap, ◌∙◌, ar
 use Rattle.kn_propagate.specs.Chains.{Watching, seen_as}
 use Rattle.kn_propagate.proofs.Turning.{length-seen, slot_is}
 use Rattle.kn_propagate.proofs.Reasons.{reasons_of}
-use Rattle.kn_propagate.proofs.Growing.{grown_same}
+use Rattle.kn_propagate.proofs.Resting.{grown_same}
 use Rattle.kn_propagate.proofs.visiting.visit.Goals as goal
 
 pub returns-in-Moved-clause-present : goal.returns-in-Moved-clause-present

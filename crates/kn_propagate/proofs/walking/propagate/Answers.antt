@@ -1,10 +1,10 @@
 use Rattle.std.proofs.Common.{◌≡◌, ℕ, ◌<◌, ◌≤◌, ◌+◌, ◌-◌, ◌*◌, List, length, take, refl, sym, ap, ◌∙◌, subst, arith}
 use Rattle.std.specs.Prelude.{slice_index_or, slice_set}
 use Rattle.kn_logic.specs.Literals.{negated}
-use Rattle.kn_propagate.specs.Trails.{Trailed, literals, lit_of}
+use Rattle.kn_watch.specs.Trails.{Trailed, literals, lit_of}
 use Rattle.kn_propagate.specs.Chains.{seen_as, code, hand_of, AreKept, IsIdle, IsWalking, AreSpared}
 use Rattle.kn_propagate.proofs.Lifting.{lift_walking}
-use Rattle.kn_propagate.proofs.Growing.{grown_same}
+use Rattle.kn_propagate.proofs.Resting.{grown_same}
 use Rattle.kn_propagate.proofs.Reasons.{reasons_none, reasons_trans, reasons_same}
 use Rattle.kn_propagate.proofs.Sparing.{spared_same, spared_trans, spared_walk}
 use Rattle.kn_propagate.proofs.Walks.{same_refl, walking_at, grown_trans, known_at, code_known, same_trans, fresh_next, fresh_same, grown_long, made_few}
@@ -33,7 +33,7 @@ walk-requires-clause-walking g c =
     let fh = code_known c.loop-visited.trail.vars c.loop-visited.chains.heads (negated (lit_of c.loop-visited.trail.made c.loop-visited.visited)) known sized in
     let hq = subst (λ (n : ℕ). c.lift.new.self.heads ≡ slice_set (slice_set c.loop-visited.chains.heads (hand_of c.loop-visited.chains.heads) (slice_index_or c.loop-visited.chains.heads n 0)) n 0) fq c.lift.ensures.heads in
     walking_at c.loop-visited.trail.made (take c.loop-visited.visited (literals c.loop-visited.trail.made)) (seen_as g.W.Watched.bounded g.W.Watched.watches c.loop-visited.slots.items) c.loop-visited.chains.spots c.lift.new.self.spots c.lift.new.self.nexts c.lift.new.self.heads (code (negated (lit_of c.loop-visited.trail.made c.loop-visited.visited))) c.lift.ensures.spots (subst (λ (x : List ℕ). IsWalking c.loop-visited.trail.made (take c.loop-visited.visited (literals c.loop-visited.trail.made)) (seen_as g.W.Watched.bounded g.W.Watched.watches c.loop-visited.slots.items) c.loop-visited.chains.spots x c.lift.new.self.heads (code (negated (lit_of c.loop-visited.trail.made c.loop-visited.visited)))) (sym c.lift.ensures.nexts)
-      (lift_walking c.loop-visited.trail.made (take c.loop-visited.visited (literals c.loop-visited.trail.made)) (seen_as g.W.Watched.bounded g.W.Watched.watches c.loop-visited.slots.items) c.loop-visited.chains.spots c.loop-visited.chains.nexts c.loop-visited.chains.heads c.lift.new.self.heads (code (negated (lit_of c.loop-visited.trail.made c.loop-visited.visited))) inv.idle fh hq))
+    (lift_walking c.loop-visited.trail.made (take c.loop-visited.visited (literals c.loop-visited.trail.made)) (seen_as g.W.Watched.bounded g.W.Watched.watches c.loop-visited.slots.items) c.loop-visited.chains.spots c.loop-visited.chains.nexts c.loop-visited.chains.heads c.lift.new.self.heads (code (negated (lit_of c.loop-visited.trail.made c.loop-visited.visited))) inv.idle fh hq))
 
 pub returns-in-Some-clause-reasons : goal.returns-in-Some-clause-reasons
 returns-in-Some-clause-reasons g c =

@@ -1,5 +1,5 @@
 use Rattle.std.proofs.Common.{◌≡◌, ◌<◌, ℕ, List, length, slice_index_or, take}
-use Rattle.kn_propagate.specs.Trails.{literals}
+use Rattle.kn_watch.specs.Trails.{literals}
 use Rattle.kn_propagate.specs.Chains.{seen_as, IsStopped, AreSpared, hand_of, count_from}
 use Rattle.kn_propagate.proofs.walking.restore.Given as goal
 

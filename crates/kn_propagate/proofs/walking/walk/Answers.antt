@@ -5,11 +5,12 @@ use Rattle.kn_logic.specs.Constraints.{Bounded}
 use Rattle.kn_logic.specs.Literals.{Literal, negated, has}
 use Rattle.kn_logic.specs.Propagation.{is_open}
 use Rattle.kn_propagate.specs.declared.chains.Spot.{Spot}
-use Rattle.kn_propagate.specs.Trails.{Trailed, literals, lit_of}
-use Rattle.kn_propagate.specs.Watches.{listed, lit_at, IsSatisfied, IsConflicting}
+use Rattle.kn_watch.specs.Trails.{Trailed, literals, lit_of}
+use Rattle.kn_watch.specs.Watches.{listed, lit_at, IsSatisfied, IsConflicting}
 use Rattle.kn_propagate.specs.Chains.{Watching, seen_as, at_slot, lit_of_spot, code, spot_at, AreKept, IsStopped, hand_of}
 use Rattle.kn_propagate.proofs.Relinking.{a_spot}
-use Rattle.kn_propagate.proofs.Growing.{all_within_grown, grown_same}
+use Rattle.kn_watch.proofs.Public.{all_within_grown}
+use Rattle.kn_propagate.proofs.Resting.{grown_same}
 use Rattle.kn_propagate.proofs.Turning.{length-seen}
 use Rattle.kn_propagate.proofs.Steps.{IsEntry, numbered, entry_is, head_within, is_false, has_at, step_done}
 use Rattle.kn_propagate.proofs.Reasons.{reasons_none, reasons_trans, reasons_same}
@@ -202,7 +203,7 @@ returns-in-Conflict-clause-stopped g c =
     let hq = subst (λ (n : ℕ). c.lay-in-Conflict.new.self.heads ≡ slice_set c.draw.new.self.heads n (c.in-Some.entry + 1)) fq c.lay-in-Conflict.ensures.heads in
     let all = grown_trans c.args.trail.now c.loop-entry.trail c.visit.new.trail inv.present c.in-Conflict.ensures.present in
     subst (λ (x : List Literal). IsStopped c.visit.new.trail.made x (seen_as g.W.Watched.bounded g.W.Watched.watches c.visit.new.slots.items) c.lay-in-Conflict.new.self.spots c.lay-in-Conflict.new.self.nexts c.lay-in-Conflict.new.self.heads (code (negated (lit_of c.args.trail.now.made c.args.visited)))) (sym (take_grown c.args.trail.now c.visit.new.trail c.args.visited all c.requires.visited))
-      (stopped_at c.visit.new.trail.made (take c.args.visited (literals c.args.trail.now.made)) (seen_as g.W.Watched.bounded g.W.Watched.watches c.visit.new.slots.items) c.loop-entry.chains.spots c.lay-in-Conflict.new.self.spots c.lay-in-Conflict.new.self.nexts c.lay-in-Conflict.new.self.heads (code (negated (lit_of c.args.trail.now.made c.args.visited))) (c.lay-in-Conflict.ensures.spots ∙ c.in-Some.ensures.spots) (walk_stops c.args.trail.now c.loop-entry.trail c.visit.new.trail c.args.visited (seen_as g.W.Watched.bounded g.W.Watched.watches c.loop-entry.slots.items) (seen_as g.W.Watched.bounded g.W.Watched.watches c.visit.new.slots.items) c.loop-entry.chains.spots c.loop-entry.chains.nexts c.loop-entry.chains.heads c.draw.new.self.nexts c.draw.new.self.heads c.lay-in-Conflict.new.self.nexts c.lay-in-Conflict.new.self.heads (code (negated (lit_of c.args.trail.now.made c.args.visited))) c.in-Some.entry c.in-Conflict.ensures.present w c.in-Some.ensures.drawn c.in-Conflict.ensures.visited.0 fh c.in-Some.ensures.nexts nq hq))
+    (stopped_at c.visit.new.trail.made (take c.args.visited (literals c.args.trail.now.made)) (seen_as g.W.Watched.bounded g.W.Watched.watches c.visit.new.slots.items) c.loop-entry.chains.spots c.lay-in-Conflict.new.self.spots c.lay-in-Conflict.new.self.nexts c.lay-in-Conflict.new.self.heads (code (negated (lit_of c.args.trail.now.made c.args.visited))) (c.lay-in-Conflict.ensures.spots ∙ c.in-Some.ensures.spots) (walk_stops c.args.trail.now c.loop-entry.trail c.visit.new.trail c.args.visited (seen_as g.W.Watched.bounded g.W.Watched.watches c.loop-entry.slots.items) (seen_as g.W.Watched.bounded g.W.Watched.watches c.visit.new.slots.items) c.loop-entry.chains.spots c.loop-entry.chains.nexts c.loop-entry.chains.heads c.draw.new.self.nexts c.draw.new.self.heads c.lay-in-Conflict.new.self.nexts c.lay-in-Conflict.new.self.heads (code (negated (lit_of c.args.trail.now.made c.args.visited))) c.in-Some.entry c.in-Conflict.ensures.present w c.in-Some.ensures.drawn c.in-Conflict.ensures.visited.0 fh c.in-Some.ensures.nexts nq hq))
 
 pub returns-in-Conflict-clause-reasons : goal.returns-in-Conflict-clause-reasons
 returns-in-Conflict-clause-reasons g c =
@@ -222,9 +223,10 @@ returns-in-Conflict-clause-conflict g c =
     let w = inv.walking in
     let e = entry_is (seen_as g.W.Watched.bounded g.W.Watched.watches c.loop-entry.slots.items) c.loop-entry.chains.spots c.loop-entry.chains.nexts c.loop-entry.chains.heads c.draw.new.self.heads (code (negated (lit_of c.args.trail.now.made c.args.visited))) w.chain w.home c.in-Some.entry c.spot-spot.result w.wired c.in-Some.ensures.drawn (c.spot-spot.ensures ∙ ap (λ (x : List Spot). spot_at x c.in-Some.entry) c.in-Some.ensures.spots) in
     let same = c.in-Conflict.ensures.visited.0 in
-    let long = c.in-Conflict.ensures.same.long in
-    (omega (arith, e.owned, long, length-seen g.W.Watched.bounded g.W.Watched.watches c.visit.new.slots.items),
-     subst (λ (x : List Watching). IsConflicting (literals c.visit.new.trail.made) (at_slot x c.spot-spot.result.owner).c) (sym same) c.in-Conflict.ensures.visited.1)
+    let long = c.in-Conflict.ensures.same.long in (
+      omega (arith, e.owned, long, length-seen g.W.Watched.bounded g.W.Watched.watches c.visit.new.slots.items),
+      subst (λ (x : List Watching). IsConflicting (literals c.visit.new.trail.made) (at_slot x c.spot-spot.result.owner).c) (sym same) c.in-Conflict.ensures.visited.1,
+    )
 
 pub returns-clause-done : goal.returns-clause-done
 returns-clause-done g c =
@@ -235,5 +237,5 @@ returns-clause-done g c =
     let done = step_done c.loop-entry.trail.made (take c.args.visited (literals c.args.trail.now.made)) ws c.loop-entry.chains.spots c.loop-entry.chains.nexts c.loop-entry.chains.heads (lit_of c.args.trail.now.made c.args.visited) w z.0 in
     let from : ℕ = code (negated (lit_of c.args.trail.now.made c.args.visited)) in
     subst (λ (x : List Literal). IsStopped c.loop-entry.trail.made x ws c.draw.new.self.spots c.draw.new.self.nexts c.draw.new.self.heads from) (sym (take_next c.args.trail.now c.loop-entry.trail c.args.visited inv.present c.requires.visited))
-      (stopped_at c.loop-entry.trail.made (take c.args.visited (literals c.args.trail.now.made) ++ lit_of c.args.trail.now.made c.args.visited ∷ []) ws c.loop-entry.chains.spots c.draw.new.self.spots c.draw.new.self.nexts c.draw.new.self.heads from c.in_default.ensures.spots (subst (λ (x : List ℕ). IsStopped c.loop-entry.trail.made (take c.args.visited (literals c.args.trail.now.made) ++ lit_of c.args.trail.now.made c.args.visited ∷ []) ws c.loop-entry.chains.spots c.draw.new.self.nexts x from) (sym z.1)
-        (subst (λ (x : List ℕ). IsStopped c.loop-entry.trail.made (take c.args.visited (literals c.args.trail.now.made) ++ lit_of c.args.trail.now.made c.args.visited ∷ []) ws c.loop-entry.chains.spots x c.loop-entry.chains.heads from) (sym c.in_default.ensures.nexts) done)))
+    (stopped_at c.loop-entry.trail.made (take c.args.visited (literals c.args.trail.now.made) ++ lit_of c.args.trail.now.made c.args.visited ∷ []) ws c.loop-entry.chains.spots c.draw.new.self.spots c.draw.new.self.nexts c.draw.new.self.heads from c.in_default.ensures.spots (subst (λ (x : List ℕ). IsStopped c.loop-entry.trail.made (take c.args.visited (literals c.args.trail.now.made) ++ lit_of c.args.trail.now.made c.args.visited ∷ []) ws c.loop-entry.chains.spots c.draw.new.self.nexts x from) (sym z.1)
+    (subst (λ (x : List ℕ). IsStopped c.loop-entry.trail.made (take c.args.visited (literals c.args.trail.now.made) ++ lit_of c.args.trail.now.made c.args.visited ∷ []) ws c.loop-entry.chains.spots x c.loop-entry.chains.heads from) (sym c.in_default.ensures.nexts) done)))
