@@ -8,4 +8,5 @@ pub mod Sparing
 pub mod Walks
 pub mod Reasons
 pub mod Lifting
+pub mod Handing
 pub mod Adding

@@ -224,3 +224,19 @@ pub record IsIdle (made : List Made) (seen : List Literal) (ws : List Watching) 
   pub from : ℕ
   pub stopped : IsStopped made seen ws spots nexts heads from
   pub empty : slice_index_or heads (hand_of heads) 0 ≡ 0
+
+-- The hand is empty, and each watched place has its entry.
+pub record IsStill (ws : List Watching) (chains : Chained) : Type 0 where
+  pub from : ℕ
+  pub chain : ℕ → List ℕ
+  pub home : ℕ → ℕ
+  pub wired : IsWired ws chains.spots chains.nexts chains.heads from chain home
+  pub empty : slice_index_or chains.heads (hand_of chains.heads) 0 ≡ 0
+
+-- the owner of an entry that is not used: no slot has this number
+abbrev pub nobody : ℕ
+nobody = 18446744073709551615
+
+-- The entries that are not used stand in a chain of their own.
+abbrev pub AreSpare : Chained → Type 0
+AreSpare chains = (free : List ℕ) × IsChain chains.nexts chains.spare free × ((e : ℕ) → is_in e free ≡ true → (spot_at chains.spots e).owner ≡ nobody)

@@ -12,6 +12,7 @@ use crate::chains::Chains;
 use crate::slot::{Held, Slot};
 use crate::walking::propagate;
 use crate::{NoMemory, Step};
+use indexmap::IndexMap;
 use kn_logic::Lit;
 use kn_watch::{Trail, Watched};
 use std::alloc::Global;
@@ -26,9 +27,14 @@ pub struct Engine<C: Watched, K: Watched> {
     chains: Chains,
     visited: usize,
     last: Option<Step>,
+    pending: Vec<usize>,
+    index: IndexMap<u64, usize>,
+    free: usize,
 }
 
 impl<C: Watched, K: Watched> Model for Engine<C, K> {
+    ghost use Rattle.std.specs.Prelude.{nat_eq};
+    ghost use Rattle.indexmap.specs.IndexMap.{get};
     ghost use Rattle.kn_propagate.specs.Engines.{Engined};
     ghost use Rattle.kn_propagate.specs.Wholes.{live_of, IsWhole};
     ghost use Rattle.kn_propagate.specs.Chains.{seen_as, held_bounded, held_watches};
@@ -37,7 +43,7 @@ impl<C: Watched, K: Watched> Model for Engine<C, K> {
 
     ghost view = { λ e. record { trail = e.trail; live = live_of (seen_as (held_bounded C.bounded K.bounded) (held_watches C.watches K.watches) e.slots.items); last = e.last } };
 
-    ghost invariant = { λ e. IsWhole e.trail (seen_as (held_bounded C.bounded K.bounded) (held_watches C.watches K.watches) e.slots.items) e.chains e.visited e.last };
+    ghost invariant = { λ e. IsWhole e.trail (seen_as (held_bounded C.bounded K.bounded) (held_watches C.watches K.watches) e.slots.items) e.chains e.visited e.last e.pending.items (get nat_eq e.index) };
 }
 
 impl<C: Watched, K: Watched> Engine<C, K> {
@@ -52,6 +58,9 @@ impl<C: Watched, K: Watched> Engine<C, K> {
             chains: Chains::new(alloc, vars)?,
             visited: 0,
             last: None,
+            pending: Vec::new(alloc),
+            index: IndexMap::new(alloc),
+            free: 0,
         })
     }
 
@@ -77,11 +86,9 @@ impl<C: Watched, K: Watched> Engine<C, K> {
         ensures value { option_map (λ lits. lits.now) result ≡ option_map listed (live_in self.now.live id) }
         ensures kept { IsEngine self.now }
     {
-        for slot in &self.slots {
-            if slot.id == Some(id) {
-                return Some(slot.watch.lits());
-            }
+        match self.index.get(&id) {
+            Some(slot) => Some(self.slots[*slot].watch.lits()),
+            None => None,
         }
-        None
     }
 }
