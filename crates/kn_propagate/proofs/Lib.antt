@@ -9,4 +9,5 @@ pub mod Walks
 pub mod Reasons
 pub mod Lifting
 pub mod Handing
+pub mod Empty
 pub mod Adding
