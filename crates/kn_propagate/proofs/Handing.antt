@@ -118,37 +118,37 @@ stepped_is t ws visited (Some (Conflict id)) k d s = ((at_slot ws s.0).c, live_i
 pub engine_is : (t : Trailed) (ws : List Watching) (chains : Chained) (visited : ℕ) (last : Option Step) (pending : List ℕ) (find : ℕ → Option ℕ) → IsWhole t ws chains visited last pending find → IsEngine (record { trail = t; live = live_of ws; last = last })
 engine_is t ws chains visited last pending find w =
     let d = distinct ws find w.index in
-    let k = w.fresh.trail in
+    let k = w.tabled.fresh.trail in
     record {
       known = k.known;
       different = k.different;
       levels = λ p m e. level_at t.level t.made p m k.rising e;
       rising = k.rising;
-      assumed = λ p q m n e r f lt. elim (w.founded p m e) [
+      assumed = λ p q m n e r f lt. elim (w.tabled.founded p m e) [
         | inl a ↦ a.2 q n lt f
         | inr a ↦ (let b = a.0.3 in absurd cc)
       ];
-      assumed_above = λ p m e r. elim (w.founded p m e) [
+      assumed_above = λ p m e r. elim (w.tabled.founded p m e) [
         | inl a ↦ a.1
         | inr a ↦ (let b = a.0.3 in absurd cc)
       ];
-      first = λ p m e le before. elim (w.founded p m e) [
+      first = λ p m e le before. elim (w.tabled.founded p m e) [
         | inl a ↦ a.0
         | inr a ↦ elim (a.1) [
             | inl z ↦ absurd (omega (arith, z, le))
             | inr f ↦ (let b = before f.0 f.1 f.2 f.3 in absurd (omega (arith, b, f.4)))
           ]
       ];
-      last = λ le. last_is t k w.begun le;
-      forced = λ p m id e r. elim (w.founded p m e) [
+      last = λ le. last_is t k w.tabled.begun le;
+      forced = λ p m id e r. elim (w.tabled.founded p m e) [
         | inl a ↦ (let b = a.0 in absurd cc)
         | inr a ↦ (
             let h = a.0 in
             let i : h.1 ≡ id = (let b = h.3 in cc) in
             ((at_slot ws h.0).c, live_is ws h.0 id d h.2 (h.4 ∙ ap (λ (z : ℕ). Some z) i), h.5))
       ];
-      closed = λ n lt. closed_is (literals (below (n + 1) t.made)) ws (consistent_below t (n + 1) k) (w.lower n lt);
+      closed = λ n lt. closed_is (literals (below (n + 1) t.made)) ws (consistent_below t (n + 1) k) (w.tabled.lower n lt);
       stepped = stepped_is t ws visited last k d w.says;
       apart = apart_is ws d;
-      within = all_live (IsWithin t.vars) ws (λ slot lt. (w.kept slot lt).within);
+      within = all_live (IsWithin t.vars) ws (λ slot lt. (w.tabled.kept slot lt).within);
     }

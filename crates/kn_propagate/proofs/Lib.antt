@@ -10,4 +10,6 @@ pub mod Reasons
 pub mod Lifting
 pub mod Handing
 pub mod Empty
+pub mod Founding
+pub mod Looking
 pub mod Adding

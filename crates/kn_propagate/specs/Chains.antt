@@ -4,7 +4,7 @@ use Rattle.std.specs.Prelude.{ℕ, zero, suc, ◌≡◌, ◌≢◌, ◌≤◌, �
 use Rattle.std.specs.List.{list_any, AllByRecursion}
 use Rattle.kn_logic.specs.Literals.{Literal, negated, has}
 use Rattle.kn_logic.specs.Constraints.{Bounded, IsWithin, klause}
-use Rattle.kn_logic.specs.Propagation.{is_open, Forces}
+use Rattle.kn_logic.specs.Propagation.{is_open, open_places, Forces}
 use Rattle.kn_watch.specs.declared.trail.Made.{Made}
 use Rattle.kn_propagate.specs.declared.chains.Spot.{Spot}
 use Rattle.kn_propagate.specs.declared.slot.Slot.{Slot}
@@ -240,3 +240,7 @@ nobody = 18446744073709551615
 -- The entries that are not used stand in a chain of their own.
 abbrev pub AreSpare : Chained → Type 0
 AreSpare chains = (free : List ℕ) × IsChain chains.nexts chains.spare free × ((e : ℕ) → is_in e free ≡ true → (spot_at chains.spots e).owner ≡ nobody)
+
+-- Each constraint of the list of which no more literals than its bound were not false is satisfied now.
+abbrev pub AreSettled : List Literal → List Literal → List Watching → List ℕ → Type 0
+AreSettled before now ws pending = (slot : ℕ) → is_in slot pending ≡ true → open_places before (listed (at_slot ws slot).c) ≤ (at_slot ws slot).c.bound → IsSatisfied now (at_slot ws slot).c

@@ -59,13 +59,13 @@ IsPending t pending slot w = (is_in slot pending ≡ true) × NoneFalse (literal
 abbrev pub IsGuarded : Trailed → List ℕ → ℕ → Watching → Type 0
 IsGuarded t pending slot w = IsBroad w.c ⊎ (IsSatisfied (literals (below 1 t.made)) w.c ⊎ ((t.level ≡ 0) × (is_in slot pending ≡ true)))
 
-pub record IsWhole (t : Trailed) (ws : List Watching) (chains : Chained) (visited : ℕ) (last : Option Step) (pending : List ℕ) (find : ℕ → Option ℕ) : Type 0 where
+-- what the tables keep, slot by slot
+pub record IsTabled (t : Trailed) (ws : List Watching) (chains : Chained) (visited : ℕ) (pending : List ℕ) : Type 0 where
   pub small : t.vars < 2 ^ 32
   pub sized : length chains.heads ≡ 2 * t.vars + 3
   pub visited_ : visited ≤ length t.made
   pub few : length ws ≤ nobody
   pub kept : AreKept t.vars ws
-  pub index : IsIndex ws find
   pub fresh : IsFresh t visited
   pub founded : AreFounded ws t.made
   pub begun : AreBegun t
@@ -76,4 +76,8 @@ pub record IsWhole (t : Trailed) (ws : List Watching) (chains : Chained) (visite
   pub due : (slot : ℕ) → is_in slot pending ≡ true → slot < length ws
   -- what going back to a lower level leaves is closed
   pub lower : (k : ℕ) → k < t.level → IsQuiet (literals (below (k + 1) t.made)) ws
+
+pub record IsWhole (t : Trailed) (ws : List Watching) (chains : Chained) (visited : ℕ) (last : Option Step) (pending : List ℕ) (find : ℕ → Option ℕ) : Type 0 where
+  pub tabled : IsTabled t ws chains visited pending
+  pub index : IsIndex ws find
   pub says : Says t ws visited last

@@ -4,6 +4,7 @@
 
 mod chains;
 mod engine;
+mod settling;
 mod slot;
 mod step;
 mod visiting;
