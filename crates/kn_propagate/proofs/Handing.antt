@@ -73,7 +73,7 @@ closed_is trail ws k q = record {
   quiet = all_constraints (λ c. IsShort trail c → ⊥) (live_of ws) (all_live (λ c. IsShort trail c → ⊥) ws q);
 }
 
-level_at : (top : ℕ) (made : List Made) (p : ℕ) (m : Made) → IsRising top made → slice_get made p ≡ Some m → m.level ≤ top
+pub level_at : (top : ℕ) (made : List Made) (p : ℕ) (m : Made) → IsRising top made → slice_get made p ≡ Some m → m.level ≤ top
 level_at top [] p m r e = absurd cc
 level_at top (x ∷ made) zero m r e = let q : x ≡ m = cc in subst (λ (z : Made). z.level ≤ top) q r.0
 level_at top (x ∷ made) (suc p) m r e = level_at top made p m r.2 e

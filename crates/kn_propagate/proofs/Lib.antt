@@ -12,4 +12,6 @@ pub mod Handing
 pub mod Empty
 pub mod Founding
 pub mod Looking
+pub mod Advancing
+pub mod Engined
 pub mod Adding

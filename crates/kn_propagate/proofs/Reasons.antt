@@ -49,7 +49,7 @@ get_front [] b place lt = absurd (omega (arith, lt))
 get_front (m ∷ a) b zero lt = refl
 get_front (m ∷ a) b (suc place) lt = get_front a b place (omega (arith, lt))
 
-get_last : (a : List Made) (m n : Made) (place : ℕ) → length a ≤ place → slice_get (a ++ m ∷ []) place ≡ Some n → (place ≡ length a) × (n ≡ m)
+pub get_last : (a : List Made) (m n : Made) (place : ℕ) → length a ≤ place → slice_get (a ++ m ∷ []) place ≡ Some n → (place ≡ length a) × (n ≡ m)
 get_last [] m n zero le e = (refl, cc)
 get_last [] m n (suc place) le e = absurd cc
 get_last (x ∷ a) m n zero le e = absurd (omega (arith, le))
@@ -91,7 +91,7 @@ reasons_of ws slot id c made new lt is same h place m le e =
     let k = h place m le e in
     (slot, id, lt, k.0, is, subst (λ (x : Bounded). Forces (take place (literals new)) x m.lit) (sym same) k.1)
 
-reason_same : (ws new : List Watching) (trail : List Literal) (m : Made) → AreSame ws new → HasReason new trail m → HasReason ws trail m
+pub reason_same : (ws new : List Watching) (trail : List Literal) (m : Made) → AreSame ws new → HasReason new trail m → HasReason ws trail m
 reason_same ws new trail m s h = (h.0, h.1, omega (arith, h.2, s.long), h.3, sym (s.ids h.0) ∙ h.4, subst (λ (x : Bounded). Forces trail x m.lit) (s.same h.0) h.5)
 
 pub reasons_same : (ws new : List Watching) (made more : List Made) → AreSame ws new → AreReasoned new made more → AreReasoned ws made more

@@ -39,6 +39,11 @@ abbrev pub IsForcedAt : List Live → List Made → ℕ → Type 0
 IsForcedAt live made place = (m : Made) (id : ℕ) → slice_get made place ≡ Some m → m.reason ≡ Some id
     → (c : Bounded) × (live_in live id ≡ Some c) × Forces (take place (literals made)) c m.lit
 
+-- The literal at this place of the trail has a reason, by which it was forced.
+abbrev pub HasReasonAt : List Live → List Made → ℕ → Type 0
+HasReasonAt live made place = (m : Made) → slice_get made place ≡ Some m
+    → (id : ℕ) × (c : Bounded) × (m.reason ≡ Some id) × (live_in live id ≡ Some c) × Forces (take place (literals made)) c m.lit
+
 -- The constraint of this id is live, and fewer of its literals than its bound are not false, and it has no
 -- guard or a true one: run as a hint on the trail it ends in conflict.
 abbrev pub IsConflict : Engined → ℕ → Type 0

@@ -1,14 +1,17 @@
 //! The engine: live constraints of two kinds over one trail.
-ghost use Rattle.std.specs.Prelude.{◌≡◌, ◌≤◌, ◌<◌, ◌+◌, ◌-◌, ◌*◌, ◌^◌, ◌++◌, ◌∷◌, Some, None, [], false, length, IfOk, option_map};
+ghost use Rattle.std.specs.Prelude.{◌≡◌, ◌≤◌, ◌<◌, ◌+◌, ◌-◌, ◌*◌, ◌^◌, ◌++◌, ◌∷◌, Some, None, [], false, length, IfOk, IfSome, IfNone, option_map, ℕ};
 ghost use Rattle.kn_logic.specs.Literals.{IsKnown, names};
 ghost use Rattle.kn_logic.specs.Constraints.{Bounded};
+ghost use Rattle.kn_logic.specs.Propagation.{IsClosed};
 ghost use Rattle.kn_watch.specs.Trails.{literals, below};
-ghost use Rattle.kn_watch.specs.Watches.{listed};
+ghost use Rattle.kn_watch.specs.Watches.{listed, IsConflicting};
 ghost use Rattle.kn_propagate.specs.declared.step.Step.TheVariants.{Closed, Conflict};
-ghost use Rattle.kn_propagate.specs.Engines.{live_in, IsEngine};
-ghost use Rattle.kn_propagate.specs.Chains.{IsGrown};
+ghost use Rattle.kn_propagate.specs.Engines.{constraints, live_in, HasReasonAt, IsConflict, IsEngine};
+ghost use Rattle.kn_propagate.specs.Chains.{seen_as, at_slot, AreSame, IsGrown, AreReasoned};
+ghost use Rattle.kn_propagate.specs.Wholes.{IsQuiet, IsTabled};
 
 use crate::chains::Chains;
+use crate::settling::settle;
 use crate::slot::{Held, Slot};
 use crate::walking::propagate;
 use crate::{NoMemory, Step};
@@ -91,4 +94,62 @@ impl<C: Watched, K: Watched> Engine<C, K> {
             None => None,
         }
     }
+
+    /// Makes true all that is forced, until nothing is (`Closed`) or some live constraint has too few literals
+    /// left (`Conflict`). Each literal that is added was forced by its reason, at its place. Takes no memory.
+    pub fn propagate(&mut self) -> Step
+        ensures live { self.new.live ≡ self.old.live }
+        ensures grown { IsGrown self.old.trail self.new.trail }
+        ensures forced { (p : ℕ) → length self.old.trail.made ≤ p → p < length self.new.trail.made → HasReasonAt self.new.live self.new.trail.made p }
+        ensures last { self.new.last ≡ Some result }
+        ensures closed { result ≡ Closed → IsClosed (literals self.new.trail.made) (constraints self.new.live) }
+        ensures conflict { (id : ℕ) → result ≡ Conflict id → IsConflict self.new id }
+        ensures kept { IsEngine self.new }
+    {
+        let stopped = advance(
+            &mut self.slots,
+            &mut self.chains,
+            &mut self.trail,
+            &mut self.visited,
+            &mut self.pending,
+        );
+        match stopped {
+            Some(owner) => {
+                let Some(id) = self.slots[owner].id else {
+                    unreachable!()
+                };
+                self.last = Some(Step::Conflict { id });
+                Step::Conflict { id }
+            }
+            None => {
+                self.last = Some(Step::Closed);
+                Step::Closed
+            }
+        }
+    }
+}
+
+// looks at what was added, then visits what was not visited; the slot of a constraint in conflict, at which it
+// stopped
+fn advance<W: Watched>(
+    slots: &mut Vec<Slot<W>>,
+    chains: &mut Chains,
+    trail: &mut Trail,
+    visited: &mut usize,
+    pending: &mut Vec<usize>,
+) -> Option<usize>
+    requires { IsTabled trail.old (seen_as W.bounded W.watches slots.old.items) chains.old visited.old pending.old.items }
+    ensures tabled { IsTabled trail.new (seen_as W.bounded W.watches slots.new.items) chains.new visited.new pending.new.items }
+    ensures same { AreSame (seen_as W.bounded W.watches slots.old.items) (seen_as W.bounded W.watches slots.new.items) }
+    ensures present { IsGrown trail.old trail.new }
+    ensures reasons { AreReasoned (seen_as W.bounded W.watches slots.old.items) trail.old.made trail.new.made }
+    ensures all { IfNone result (length trail.new.made ≤ visited.new) }
+    ensures quiet { IfNone result (IsQuiet (literals trail.new.made) (seen_as W.bounded W.watches slots.new.items)) }
+    ensures conflict { IfSome result (λ owner. (owner < length slots.new.items) × IsConflicting (literals trail.new.made) (at_slot (seen_as W.bounded W.watches slots.new.items) owner).c) }
+{
+    if let Some(owner) = settle(slots, pending, trail) {
+        return Some(owner);
+    }
+    pending.clear();
+    propagate(slots, chains, trail, visited)
 }
