@@ -183,7 +183,7 @@ tabled_walked t u ws new chains more visited now w sized kept s g r spared le fr
   lower = lower_grown t u ws new g s w.lower;
 }
 
-take_whole : (lits : List Literal) (n : ℕ) → length lits ≤ n → take n lits ≡ lits
+pub take_whole : (lits : List Literal) (n : ℕ) → length lits ≤ n → take n lits ≡ lits
 take_whole [] zero le = refl
 take_whole [] (suc n) le = refl
 take_whole (l ∷ lits) zero le = absurd (omega (arith, le))

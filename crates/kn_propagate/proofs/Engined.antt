@@ -5,9 +5,12 @@ use Rattle.std.proofs.lemmas.List.{ext_get_or}
 use Rattle.kn_logic.specs.Constraints.{Bounded}
 use Rattle.kn_watch.specs.declared.trail.Made.{Made}
 use Rattle.kn_watch.specs.Trails.{Trailed, literals}
-use Rattle.kn_propagate.specs.Chains.{Watching, at_slot, AreSame, HasReason, AreReasoned}
-use Rattle.kn_propagate.specs.Engines.{Live, live_in, HasReasonAt}
-use Rattle.kn_propagate.specs.Wholes.{with_live, live_of, IsIndex}
+use Rattle.kn_propagate.specs.Chains.{Watching, Chained, at_slot, AreSame, HasReason, AreReasoned}
+use Rattle.kn_propagate.specs.Engines.{Live, Engined, live_in, HasReasonAt}
+use Rattle.kn_propagate.specs.declared.step.Step.{Step}
+use Rattle.kn_propagate.specs.declared.step.Step.TheVariants.{Closed, Conflict}
+use Rattle.kn_watch.specs.Watches.{IsConflicting}
+use Rattle.kn_propagate.specs.Wholes.{with_live, live_of, IsIndex, IsQuiet, IsTabled, IsWhole}
 use Rattle.kn_propagate.proofs.Handing.{distinct, live_is}
 
 pub if_none : {A : Type 0} (r : Option A) (P Q : Type 0) → (P → Q) → IfNone r P → IfNone r Q
@@ -40,3 +43,14 @@ pub reason_at : (ws : List Watching) (find : ℕ → Option ℕ) (made new : Lis
 reason_at ws find made new p x r le m e =
     let h = r p m le e in
     (h.1, (at_slot ws h.0).c, h.3, live_is ws h.0 h.1 (distinct ws find x) h.2 h.4, h.5)
+
+-- each literal that was added has a reason that is live
+pub forced_now : (t u : Trailed) (now : Engined) (last : Option Step) (ws new : List Watching) (find : ℕ → Option ℕ) → IsIndex ws find → AreSame ws new → AreReasoned ws t.made u.made → (record { trail = t; live = live_of ws; last = last }) ≡ now → (p : ℕ) → length now.trail.made ≤ p → HasReasonAt (live_of new) u.made p
+forced_now t u now last ws new find x s r is p le =
+    subst (λ (live : List Live). HasReasonAt live u.made p) (sym (live_same ws new s)) (reason_at ws find t.made u.made p x r (omega (arith, le, ap (λ (g : Engined). length g.trail.made) is)))
+
+pub whole_closed : (t : Trailed) (ws new : List Watching) (chains : Chained) (visited : ℕ) (pending : List ℕ) (find : ℕ → Option ℕ) → IsIndex ws find → AreSame ws new → IsTabled t new chains visited pending → length t.made ≤ visited → IsQuiet (literals t.made) new → IsWhole t new chains visited (Some Closed) pending find
+whole_closed t ws new chains visited pending find x s w le q = record { tabled = w; index = index_same ws new find s x; says = (le, q) }
+
+pub whole_conflict : (t : Trailed) (ws new : List Watching) (chains : Chained) (visited slot id : ℕ) (pending : List ℕ) (find : ℕ → Option ℕ) → IsIndex ws find → AreSame ws new → IsTabled t new chains visited pending → slot < length new → (at_slot new slot).id ≡ Some id → IsConflicting (literals t.made) (at_slot new slot).c → IsWhole t new chains visited (Some (Conflict id)) pending find
+whole_conflict t ws new chains visited slot id pending find x s w lt e k = record { tabled = w; index = index_same ws new find s x; says = (slot, lt, e, k) }

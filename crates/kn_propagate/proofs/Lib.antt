@@ -14,4 +14,5 @@ pub mod Founding
 pub mod Looking
 pub mod Advancing
 pub mod Engined
+pub mod Levels
 pub mod Adding

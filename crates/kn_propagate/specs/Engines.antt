@@ -55,6 +55,12 @@ HasStepped g None = Unit {0}
 HasStepped g (Some Closed) = IsClosed (literals g.trail.made) (constraints g.live)
 HasStepped g (Some (Conflict id)) = IsConflict g id
 
+-- a closed trail stays closed; a conflict may end
+abbrev pub closed_only : Option Step → Option Step
+closed_only None = None
+closed_only (Some Closed) = Some Closed
+closed_only (Some (Conflict id)) = None
+
 -- what the type of an engine keeps
 pub record IsEngine (g : Engined) : Type 0 where
   pub known : AreKnown g.trail.vars (literals g.trail.made)

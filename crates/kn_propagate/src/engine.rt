@@ -6,7 +6,7 @@ ghost use Rattle.kn_logic.specs.Propagation.{IsClosed};
 ghost use Rattle.kn_watch.specs.Trails.{literals, below};
 ghost use Rattle.kn_watch.specs.Watches.{listed, IsConflicting};
 ghost use Rattle.kn_propagate.specs.declared.step.Step.TheVariants.{Closed, Conflict};
-ghost use Rattle.kn_propagate.specs.Engines.{constraints, live_in, HasReasonAt, IsConflict, IsEngine};
+ghost use Rattle.kn_propagate.specs.Engines.{constraints, live_in, HasReasonAt, IsConflict, closed_only, IsEngine};
 ghost use Rattle.kn_propagate.specs.Chains.{seen_as, at_slot, AreSame, IsGrown, AreReasoned};
 ghost use Rattle.kn_propagate.specs.Wholes.{IsQuiet, IsTabled};
 
@@ -95,6 +95,35 @@ impl<C: Watched, K: Watched> Engine<C, K> {
         }
     }
 
+    /// Makes a literal without a value true, at a new level. The last step is `Closed`.
+    pub fn assume(&mut self, lit: Lit)
+        requires known { IsKnown self.old.trail.vars lit }
+        requires unset { names (literals self.old.trail.made) lit.variable ≡ false }
+        requires closed { self.old.last ≡ Some Closed }
+        ensures live { self.new.live ≡ self.old.live }
+        ensures trail { self.new.trail ≡ record self.old.trail { level = self.old.trail.level + 1; made = self.old.trail.made ++ (record { lit = lit; level = self.old.trail.level + 1; reason = None }) ∷ [] } }
+        ensures last { self.new.last ≡ None }
+        ensures kept { IsEngine self.new }
+    {
+        self.trail.raise();
+        self.trail.push(lit, None);
+        self.last = None;
+    }
+
+    /// Goes back to a level: exactly the literals of higher levels lose their values. A closed trail stays
+    /// closed, and a conflict is no more the last step. Takes no memory.
+    pub fn back_to(&mut self, level: u64)
+        requires { level ≤ self.old.trail.level }
+        ensures trail { self.new.trail ≡ record self.old.trail { level = level; made = below (level + 1) self.old.trail.made } }
+        ensures live { self.new.live ≡ self.old.live }
+        ensures last { self.new.last ≡ closed_only self.old.last }
+        ensures kept { IsEngine self.new }
+    {
+        self.trail.back_to(level);
+        self.visited = self.visited.min(self.trail.len());
+        self.last = closed_only(self.last);
+    }
+
     /// Makes true all that is forced, until nothing is (`Closed`) or some live constraint has too few literals
     /// left (`Conflict`). Each literal that is added was forced by its reason, at its place. Takes no memory.
     pub fn propagate(&mut self) -> Step
@@ -126,6 +155,17 @@ impl<C: Watched, K: Watched> Engine<C, K> {
                 Step::Closed
             }
         }
+    }
+}
+
+// the last step, if the trail is closed
+fn closed_only(last: Option<Step>) -> Option<Step>
+    ensures { result ≡ closed_only last }
+{
+    match last {
+        Some(Step::Closed) => last,
+        Some(Step::Conflict { .. }) => None,
+        None => None,
     }
 }
 
