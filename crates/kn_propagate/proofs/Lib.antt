@@ -8,6 +8,7 @@ pub mod Sparing
 pub mod Walks
 pub mod Reasons
 pub mod Lifting
+pub mod Adding
 pub mod Handing
 pub mod Empty
 pub mod Founding
@@ -15,4 +16,3 @@ pub mod Looking
 pub mod Advancing
 pub mod Engined
 pub mod Levels
-pub mod Adding

@@ -1,6 +1,6 @@
 -- The engine's own definitions: constraints as they are watched, the chains of their entries, and what keeps
 -- each constraint quiet while literals are visited.
-use Rattle.std.specs.Prelude.{ℕ, zero, suc, ◌≡◌, ◌≢◌, ◌≤◌, ◌<◌, ◌+◌, ◌*◌, ◌-◌, ◌⊎◌, ◌++◌, ◌∷◌, ◌==◌, Bool, true, false, if◌then◌else◌, List, [], length, map, take, slice_get, slice_index_or, slice_set, Option, Some, None}
+use Rattle.std.specs.Prelude.{ℕ, zero, suc, ◌≡◌, ◌≢◌, ◌≤◌, ◌<◌, ◌+◌, ◌*◌, ◌-◌, ◌⊎◌, ◌++◌, ◌∷◌, ◌==◌, ◌&&◌, nat_lt, Bool, true, false, if◌then◌else◌, List, [], length, map, take, slice_get, slice_index_or, slice_set, Option, Some, None}
 use Rattle.std.specs.List.{list_any, AllByRecursion}
 use Rattle.kn_logic.specs.Literals.{Literal, negated, has}
 use Rattle.kn_logic.specs.Constraints.{Bounded, IsWithin, klause}
@@ -62,6 +62,7 @@ pub record Chained : Type 0 where
   pub nexts : List ℕ
   pub heads : List ℕ
   pub spare : ℕ
+  pub room : ℕ
 
 -- the number of a literal's chain
 abbrev pub code : Literal → ℕ
@@ -244,3 +245,26 @@ AreSpare chains = (free : List ℕ) × IsChain chains.nexts chains.spare free ×
 -- Each constraint of the list of which no more literals than its bound were not false is satisfied now.
 abbrev pub AreSettled : List Literal → List Literal → List Watching → List ℕ → Type 0
 AreSettled before now ws pending = (slot : ℕ) → is_in slot pending ≡ true → open_places before (listed (at_slot ws slot).c) ≤ (at_slot ws slot).c.bound → IsSatisfied now (at_slot ws slot).c
+
+abbrev pub AreWithin : ℕ → List Watching → Type 0
+AreWithin vars ws = (slot : ℕ) → slot < length ws → IsWithin vars (at_slot ws slot).c
+
+-- This entry is not used, and is taken out of the chain of those, or comes new behind all others.
+pub record IsUnused (old new : Chained) (e : ℕ) : Type 0 where
+  pub inside : e < length new.spots
+  pub long : length old.spots ≤ length new.spots
+  pub more : length new.spots ≤ length old.spots + 1
+  pub even : length new.nexts ≡ length new.spots
+  pub free : (spot_at new.spots e).owner ≡ nobody
+  pub spare : (free : List ℕ) × IsChain new.nexts new.spare free × ((x : ℕ) → is_in x free ≡ true → (spot_at new.spots x).owner ≡ nobody) × (is_in e free ≡ false)
+  pub spots : (x : ℕ) → x < length old.spots → spot_at new.spots x ≡ spot_at old.spots x
+  pub nexts : (x : ℕ) → x < length old.spots → slice_index_or new.nexts x 0 ≡ slice_index_or old.nexts x 0
+  pub heads : new.heads ≡ old.heads
+  pub room : old.room ≤ new.room
+
+-- of a constraint only the watched places before this one
+abbrev pub cut_of : Watching → ℕ → Watching
+cut_of w k = record { id = w.id; c = w.c; watches = λ place. w.watches place && nat_lt place k }
+
+abbrev pub cut : List Watching → ℕ → ℕ → List Watching
+cut ws slot k = slice_set ws slot (cut_of (at_slot ws slot) k)

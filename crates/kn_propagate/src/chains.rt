@@ -1,6 +1,6 @@
 //! The entries of watched places, one for each, chained by the literal that stands there.
-ghost use Rattle.std.specs.Prelude.{◌≡◌, ◌≤◌, ◌<◌, ◌+◌, ◌-◌, ◌*◌, ◌^◌, [], IfOk, length, replicate, slice_index_or, slice_set};
-ghost use Rattle.kn_propagate.specs.Chains.{code, spot_at, IsDrawn, hand_of};
+ghost use Rattle.std.specs.Prelude.{◌≡◌, ◌≤◌, ◌<◌, ◌+◌, ◌-◌, ◌*◌, ◌^◌, [], IfOk, OnOk, length, replicate, slice_index_or, slice_set};
+ghost use Rattle.kn_propagate.specs.Chains.{code, spot_at, IsDrawn, AreSpare, IsUnused, hand_of};
 
 use crate::NoMemory;
 use kn_logic::Lit;
@@ -32,19 +32,19 @@ pub struct Chains {
 }
 
 impl Model for Chains {
-    ghost use Rattle.std.specs.Prelude.{map};
+    ghost use Rattle.std.specs.Prelude.{map, vec_capacity};
     ghost use Rattle.kn_propagate.specs.Chains.{Chained};
 
     ghost Value = { Chained };
 
-    ghost view = { λ c. record { spots = map (λ e. e.spot) c.entries.items; nexts = map (λ e. e.next) c.entries.items; heads = c.heads.items; spare = c.spare } };
+    ghost view = { λ c. record { spots = map (λ e. e.spot) c.entries.items; nexts = map (λ e. e.next) c.entries.items; heads = c.heads.items; spare = c.spare; room = vec_capacity c.entries } };
 }
 
 impl Chains {
     /// No entry, and for each literal over so many variables an empty chain.
     pub fn new(alloc: Global, vars: u64) -> Result<Chains, NoMemory>
         requires { vars < 2 ^ 32 }
-        ensures { IfOk result (λ c. c ≡ record { spots = []; nexts = []; heads = replicate (2 * vars + 3) 0; spare = 0 }) }
+        ensures { IfOk result (λ c. c ≡ record { spots = []; nexts = []; heads = replicate (2 * vars + 3) 0; spare = 0; room = 0 }) }
     {
         let count = 2 * vars as usize + 3;
         Ok(Chains {
@@ -83,10 +83,51 @@ impl Chains {
         ensures heads { self.new.heads ≡ slice_set self.old.heads chain (entry + 1) }
         ensures spots { self.new.spots ≡ slice_set self.old.spots entry spot }
         ensures spare { self.new.spare ≡ self.old.spare }
+        ensures room { self.new.room ≡ self.old.room }
     {
         let next = self.heads[chain];
         self.entries[entry] = Entry { spot, next };
         self.heads[chain] = entry + 1;
+    }
+
+    /// Takes room for so many new entries. Nothing changes where memory is wanting.
+    pub fn reserve(&mut self, count: usize) -> Result<(), NoMemory>
+        ensures same { self.new ≡ record self.old { room = self.new.room } }
+        ensures room { OnOk result (length self.old.spots + count ≤ self.new.room) }
+    {
+        self.entries.reserve(count)?;
+        Ok(())
+    }
+
+    /// An entry that is not used: the first of the spare ones, or a new one, for which there is room.
+    pub fn unused(&mut self) -> usize
+        requires room { length self.old.spots < self.old.room }
+        requires spare { AreSpare self.old }
+        ensures { IsUnused self.old self.new result }
+    {
+        if self.spare == 0 {
+            return self.push();
+        }
+        let entry = self.spare - 1;
+        self.spare = self.entries[entry].next;
+        entry
+    }
+
+    // a new entry, for which there is room
+    fn push(&mut self) -> usize
+        requires room { length self.old.spots < self.old.room }
+        requires spare { self.old.spare ≡ 0 }
+        ensures { IsUnused self.old self.new result }
+    {
+        let entry = self.entries.len();
+        let spot = Spot {
+            owner: usize::MAX,
+            place: 0,
+        };
+        let Ok(()) = self.entries.push(Entry { spot, next: 0 }) else {
+            unreachable!()
+        };
+        entry
     }
 
     /// Takes the first entry out of the hand; `None` where the hand is empty.

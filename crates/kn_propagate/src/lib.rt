@@ -2,6 +2,7 @@
 //! the definitions of `specs/Engines`: what an engine is seen as, and what its type keeps.
 #![tactic(auto)]
 
+mod attaching;
 mod chains;
 mod engine;
 mod settling;

@@ -11,7 +11,7 @@ use crate::visiting::{Effect, visit};
 use kn_watch::{Trail, Watched};
 
 /// The number of the chain of the literal at a place.
-fn code_at<W: Watched>(slots: &Vec<Slot<W>>, owner: usize, place: usize) -> usize
+pub fn code_at<W: Watched>(slots: &Vec<Slot<W>>, owner: usize, place: usize) -> usize
     requires owner { owner < length slots.now.items }
     requires place { place < length (listed (at_slot (seen_as W.bounded W.watches slots.now.items) owner).c) }
     requires small { 2 * (lit_at (listed (at_slot (seen_as W.bounded W.watches slots.now.items) owner).c) place).variable + 2 < 2 ^ 64 }

@@ -8,13 +8,13 @@ use Rattle.kn_propagate.specs.Wholes.{IsWhole}
 use Rattle.kn_propagate.proofs.Empty.{whole_new}
 use Rattle.kn_propagate.proofs.engine.Engine.new.Goals as goal
 
-joined : (vars n : ℕ) (find : ℕ → Option ℕ) (t : Trailed) (ws : List Watching) (chains : Chained) (pending : List ℕ) → IsWhole (record { vars = vars; level = 0; made = [] }) [] (record { spots = []; nexts = []; heads = replicate n 0; spare = 0 }) 0 None [] find
-  → t ≡ (record { vars = vars; level = 0; made = [] }) → ws ≡ [] → chains ≡ (record { spots = []; nexts = []; heads = replicate n 0; spare = 0 }) → pending ≡ [] → IsWhole t ws chains 0 None pending find
+joined : (vars n : ℕ) (find : ℕ → Option ℕ) (t : Trailed) (ws : List Watching) (chains : Chained) (pending : List ℕ) → IsWhole (record { vars = vars; level = 0; made = [] }) [] (record { spots = []; nexts = []; heads = replicate n 0; spare = 0; room = 0 }) 0 None [] find
+  → t ≡ (record { vars = vars; level = 0; made = [] }) → ws ≡ [] → chains ≡ (record { spots = []; nexts = []; heads = replicate n 0; spare = 0; room = 0 }) → pending ≡ [] → IsWhole t ws chains 0 None pending find
 joined vars n find t ws chains pending w a b c d =
     subst (λ (x : Trailed). IsWhole x ws chains 0 None pending find) (sym a)
       (subst (λ (x : List Watching). IsWhole (record { vars = vars; level = 0; made = [] }) x chains 0 None pending find) (sym b)
         (subst (λ (x : Chained). IsWhole (record { vars = vars; level = 0; made = [] }) [] x 0 None pending find) (sym c)
-          (subst (λ (x : List ℕ). IsWhole (record { vars = vars; level = 0; made = [] }) [] (record { spots = []; nexts = []; heads = replicate n 0; spare = 0 }) 0 None x find) (sym d) w)))
+          (subst (λ (x : List ℕ). IsWhole (record { vars = vars; level = 0; made = [] }) [] (record { spots = []; nexts = []; heads = replicate n 0; spare = 0; room = 0 }) 0 None x find) (sym d) w)))
 
 pub invariant_of-result : goal.invariant_of-result
 invariant_of-result g c =
