@@ -62,20 +62,23 @@ key-sound s set aux positive x p l side in' live name stand = at (cond l.positiv
     at true e =
         let q = and_parts (cond l.positive positive (not positive)) (not (is_among set l.variable)) e in
         let here : stands (taken_by s aux) l ≡ true =
-          any-filter (λ c. has (named c) l) (touches aux) (constraints_of s.live)
-          ∙ live.some (λ c. has (named c) l && touches aux c) (and-both (has (named p.constraint) l) (touches aux p.constraint) stand (touches-from aux p.constraint x in' name)) in
+        any-filter (λ c. has (named c) l) (touches aux) (constraints_of s.live)
+        ∙ live.some (λ c. has (named c) l && touches aux c) (and-both (has (named p.constraint) l) (touches aux p.constraint) stand (touches-from aux p.constraint x in' name)) in
         ap (λ b. is_border (taken_by s aux) aux (the-literal l.variable b)) (sym (sign-one l.positive positive q.0))
         ∙ and-both (stands (taken_by s aux) l) (not (is_among aux l.variable)) here (ap not (sym (side.same l.variable)) ∙ q.1)
 
 pub side-sound : (s : Stored) (set aux : List ℕ) (positive : Bool) → IsSide s set aux → AllByRecursion (λ v. is_border (taken_by s aux) aux (the-literal v positive) ≡ true) (with_members 128 (outside_key set positive) s.live [] aux)
 side-sound s set aux positive side = all-members (λ v. is_border (taken_by s aux) aux (the-literal v positive) ≡ true) 128 (outside_key set positive) s.live [] aux tt
     (all-two (λ x. in_klause (constraints_of s.live) x ≡ false) (λ x. is_among aux x ≡ true)
-      (λ x. AllByRecursion (HasKeys s.live (λ v. is_border (taken_by s aux) aux (the-literal v positive) ≡ true) (outside_key set positive)) (naming x s.live))
-      (λ x alone in'. all-one (λ p. IsLive s p × (names (named p.constraint) x ≡ true)) (HasKeys s.live (λ v. is_border (taken_by s aux) aux (the-literal v positive) ≡ true) (outside_key set positive))
-        (λ p h. (h.0.own, all-one (λ l. has p.constraint.lits l ≡ true) (λ l. IfSome (outside_key set positive l) (λ v. is_border (taken_by s aux) aux (the-literal v positive) ≡ true))
-          (λ l stand. key-sound s set aux positive x p l side in' h.0 h.1 (ap (λ z. has z l) (clause-named p.constraint (is-plain s x p h.0 alone h.1)) ∙ stand)) p.constraint.lits (own-has p.constraint.lits)))
-        (naming x s.live) (all-naming s x side.stored))
-      aux side.alone (own-among aux))
+    (λ x. AllByRecursion (HasKeys s.live (λ v. is_border (taken_by s aux) aux (the-literal v positive) ≡ true) (outside_key set positive)) (naming x s.live))
+    (λ x alone in'. all-one (λ p. IsLive s p × (names (named p.constraint) x ≡ true)) (HasKeys s.live (λ v. is_border (taken_by s aux) aux (the-literal v positive) ≡ true) (outside_key set positive))
+    (λ p h. (
+      h.0.own,
+      all-one (λ l. has p.constraint.lits l ≡ true) (λ l. IfSome (outside_key set positive l) (λ v. is_border (taken_by s aux) aux (the-literal v positive) ≡ true))
+          (λ l stand. key-sound s set aux positive x p l side in' h.0 h.1 (ap (λ z. has z l) (clause-named p.constraint (is-plain s x p h.0 alone h.1)) ∙ stand)) p.constraint.lits (own-has p.constraint.lits),
+    ))
+    (naming x s.live) (all-naming s x side.stored))
+    aux side.alone (own-among aux))
 
 -- and where the side is not full, all of the border is gathered
 swap : {A X : Type 0} (R : A → Type 0) (Q : A → X → Type 0) (xs : List X) → ((a : A) → R a → AllByRecursion (Q a) xs) → AllByRecursion (λ x. (a : A) → R a → Q a x) xs
@@ -86,7 +89,7 @@ key-full : (set end : List ℕ) (positive : Bool) (l m : Literal) → is_same l 
 key-full set end positive l m same sign out found =
     let e = same_literal l m same in
     let test : (cond l.positive positive (not positive) && not (is_among set l.variable)) ≡ true =
-      and-both (cond l.positive positive (not positive)) (not (is_among set l.variable)) (ap (λ b. cond b positive (not positive)) sign ∙ sign-self positive) (false-not (is_among set l.variable) out) in
+    and-both (cond l.positive positive (not positive)) (not (is_among set l.variable)) (ap (λ b. cond b positive (not positive)) sign ∙ sign-self positive) (false-not (is_among set l.variable) out) in
     subst (λ o. IfSome o (IsIn end)) (cond-true (cond l.positive positive (not positive) && not (is_among set l.variable)) (Some l.variable) None test) (subst (λ z. IfSome (outside_key set positive z) (IsIn end)) (sym e) found)
 
 pub side-full : (s : Stored) (set aux : List ℕ) (positive : Bool) → IsSide s set aux → length (with_members 128 (outside_key set positive) s.live [] aux) ≤ 128
@@ -95,15 +98,15 @@ side-full s set aux positive side short l sign border =
     let end = with_members 128 (outside_key set positive) s.live [] aux in
     let parts = and_parts (stands (taken_by s aux) l) (not (is_among aux l.variable)) border in
     let missed = missed-members 128 (outside_key set positive) s.live [] aux
-      (all-one (λ x. is_among aux x ≡ true) (λ x. AllByRecursion (IsOwn s.live) (naming x s.live)) (λ x i. all-one (λ p. IsLive s p × (names (named p.constraint) x ≡ true)) (IsOwn s.live) (λ p h. h.0.own) (naming x s.live) (all-naming s x side.stored)) aux (own-among aux)) short in
+    (all-one (λ x. is_among aux x ≡ true) (λ x. AllByRecursion (IsOwn s.live) (naming x s.live)) (λ x i. all-one (λ p. IsLive s p × (names (named p.constraint) x ≡ true)) (IsOwn s.live) (λ p h. h.0.own) (naming x s.live) (all-naming s x side.stored)) aux (own-among aux)) short in
     let each = swap (λ x. is_among aux x ≡ true) (λ x p. names (named p.constraint) x ≡ true → AllKeys (IsIn end) (outside_key set positive) p.constraint.lits) s.live
-      (λ x i. all-unfilter (λ p. AllKeys (IsIn end) (outside_key set positive) p.constraint.lits) (λ p. names (named p.constraint) x) s.live
-        (all-among (λ x. AllByRecursion (λ p. AllKeys (IsIn end) (outside_key set positive) p.constraint.lits) (naming x s.live)) aux x missed i)) in
+    (λ x i. all-unfilter (λ p. AllKeys (IsIn end) (outside_key set positive) p.constraint.lits) (λ p. names (named p.constraint) x) s.live
+    (all-among (λ x. AllByRecursion (λ p. AllKeys (IsIn end) (outside_key set positive) p.constraint.lits) (naming x s.live)) aux x missed i)) in
     let q = any-with (λ p. IsLive s p × ((x : ℕ) → is_among aux x ≡ true → names (named p.constraint) x ≡ true → AllKeys (IsIn end) (outside_key set positive) p.constraint.lits))
-      (λ p. has (named p.constraint) l && touches aux p.constraint) s.live
-      (all-two (IsLive s) (λ p. (x : ℕ) → is_among aux x ≡ true → names (named p.constraint) x ≡ true → AllKeys (IsIn end) (outside_key set positive) p.constraint.lits)
-        (λ p. IsLive s p × ((x : ℕ) → is_among aux x ≡ true → names (named p.constraint) x ≡ true → AllKeys (IsIn end) (outside_key set positive) p.constraint.lits)) (λ p a b. (a, b)) s.live (all-live s side.stored) each)
-      (sym (any-map (λ p. p.constraint) (λ c. has (named c) l && touches aux c) s.live) ∙ sym (any-filter (λ c. has (named c) l) (touches aux) (constraints_of s.live)) ∙ parts.0) in
+    (λ p. has (named p.constraint) l && touches aux p.constraint) s.live
+    (all-two (IsLive s) (λ p. (x : ℕ) → is_among aux x ≡ true → names (named p.constraint) x ≡ true → AllKeys (IsIn end) (outside_key set positive) p.constraint.lits)
+    (λ p. IsLive s p × ((x : ℕ) → is_among aux x ≡ true → names (named p.constraint) x ≡ true → AllKeys (IsIn end) (outside_key set positive) p.constraint.lits)) (λ p a b. (a, b)) s.live (all-live s side.stored) each)
+    (sym (any-map (λ p. p.constraint) (λ c. has (named c) l && touches aux c) s.live) ∙ sym (any-filter (λ c. has (named c) l) (touches aux) (constraints_of s.live)) ∙ parts.0) in
     let p = q.0 in
     let both = and_parts (has (named p.constraint) l) (touches aux p.constraint) q.1 in
     let t = touched aux p.constraint both.1 in
@@ -116,21 +119,29 @@ pub side-is : (s : Stored) (set aux side : List ℕ) (positive : Bool) → IsSid
 side-is s set aux side positive is e short v =
     let end = with_members 128 (outside_key set positive) s.live [] aux in
     ap (λ z. is_among z v) e ∙ bool-same (is_among end v) (is_border (taken_by s aux) aux (the-literal v positive))
-      (λ i. all-among (λ v. is_border (taken_by s aux) aux (the-literal v positive) ≡ true) end v (side-sound s set aux positive is) i)
-      (λ b. side-full s set aux positive is (subst (λ z. length z ≤ 128) e short) (the-literal v positive) refl b)
+    (λ i. all-among (λ v. is_border (taken_by s aux) aux (the-literal v positive) ≡ true) end v (side-sound s set aux positive is) i)
+    (λ b. side-full s set aux positive is (subst (λ z. length z ≤ 128) e short) (the-literal v positive) refl b)
 
 -- too many on one side
 pub wide-positive : (s : Stored) (set aux side : List ℕ) → IsSide s set aux → side ≡ with_members 128 (outside_key set true) s.live [] aux → 128 < length side → IsTooWide (taken_by s aux) aux
 wide-positive s set aux side is e many = subst (λ z. 128 < length z → IsTooWide (taken_by s aux) aux) (sym e)
-    (λ m. (with_members 128 (outside_key set true) s.live [] aux, m, apart-members 128 (outside_key set true) s.live [] aux tt,
+    (λ m. (
+      with_members 128 (outside_key set true) s.live [] aux,
+      m,
+      apart-members 128 (outside_key set true) s.live [] aux tt,
       all-one (λ v. is_border (taken_by s aux) aux (the-literal v true) ≡ true) (λ v. at_border (taken_by s aux) aux v ≡ true)
-        (λ v b. or_left (is_border (taken_by s aux) aux (the-literal v true)) (is_border (taken_by s aux) aux (the-literal v false)) b) (with_members 128 (outside_key set true) s.live [] aux) (side-sound s set aux true is))) many
+          (λ v b. or_left (is_border (taken_by s aux) aux (the-literal v true)) (is_border (taken_by s aux) aux (the-literal v false)) b) (with_members 128 (outside_key set true) s.live [] aux) (side-sound s set aux true is),
+    )) many
 
 pub wide-negative : (s : Stored) (set aux side : List ℕ) → IsSide s set aux → side ≡ with_members 128 (outside_key set false) s.live [] aux → 128 < length side → IsTooWide (taken_by s aux) aux
 wide-negative s set aux side is e many = subst (λ z. 128 < length z → IsTooWide (taken_by s aux) aux) (sym e)
-    (λ m. (with_members 128 (outside_key set false) s.live [] aux, m, apart-members 128 (outside_key set false) s.live [] aux tt,
+    (λ m. (
+      with_members 128 (outside_key set false) s.live [] aux,
+      m,
+      apart-members 128 (outside_key set false) s.live [] aux tt,
       all-one (λ v. is_border (taken_by s aux) aux (the-literal v false) ≡ true) (λ v. at_border (taken_by s aux) aux v ≡ true)
-        (λ v b. or_right (is_border (taken_by s aux) aux (the-literal v true)) (is_border (taken_by s aux) aux (the-literal v false)) b) (with_members 128 (outside_key set false) s.live [] aux) (side-sound s set aux false is))) many
+          (λ v b. or_right (is_border (taken_by s aux) aux (the-literal v true)) (is_border (taken_by s aux) aux (the-literal v false)) b) (with_members 128 (outside_key set false) s.live [] aux) (side-sound s set aux false is),
+    )) many
 
 -- the two sides are known, and their variables ascend
 pub record IsJudged (taken : List Bounded) (aux on off variables : List ℕ) : Type 0 where
@@ -155,9 +166,12 @@ rises-apart (x ∷ xs) h = (out x xs h.0, rises-apart xs h.1)
         no false e = e
 
 pub wide-both : (taken : List Bounded) (aux on off variables : List ℕ) → IsJudged taken aux on off variables → 128 < length variables → IsTooWide taken aux
-wide-both taken aux on off variables j many =
-    (variables, many, rises-apart variables (rises variables j.ascends),
-      all-one (λ v. is_among variables v ≡ true) (λ v. at_border taken aux v ≡ true) (λ v i. sym ((border-variables taken aux on off variables j).1 v) ∙ i) variables (own-among variables))
+wide-both taken aux on off variables j many = (
+  variables,
+  many,
+  rises-apart variables (rises variables j.ascends),
+  all-one (λ v. is_among variables v ≡ true) (λ v. at_border taken aux v ≡ true) (λ v i. sym ((border-variables taken aux on off variables j).1 v) ∙ i) variables (own-among variables),
+)
 
 abbrev both : List ℕ → List ℕ → ℕ → Bool
 both on off v = list_any (nat_eq v) on && list_any (nat_eq v) off
@@ -181,9 +195,9 @@ first-some on off (z ∷ xs) x up e = at (both on off z) refl e (λ h. first-som
       where
         low-not : (y : ℕ) → is_among (z ∷ xs) y ≡ true → y < z → ⊥
         low-not y i low = elim (or_cases (z == y) (is_among xs y) i) [
-            | inl s ↦ (let same = eqb-true z y s in omega (arith, same, low))
-            | inr s ↦ (let high = all-among (λ v. z < v) xs y up.0 s in omega (arith, high, low))
-          ]
+          | inl s ↦ (let same = eqb-true z y s in omega (arith, same, low))
+          | inr s ↦ (let high = all-among (λ v. z < v) xs y up.0 s in omega (arith, high, low))
+        ]
     at false f e more =
         let q = more e in
         (q.0, λ y i low. elim (or_cases (z == y) (is_among xs y) i) [ inl s ↦ subst (λ v. both on off v ≡ false) (eqb-true z y s) f | inr s ↦ q.1 y s low ])
@@ -225,9 +239,10 @@ sided-has taken aux on off variables j e l = bool-same (has (map (sided on) vari
         at : (v : ℕ) (t : Bool) → list_any (nat_eq v) on ≡ t → at_border taken aux v ≡ true → is_border taken aux (sided on v) ≡ true
         at v true f b = ap (λ t. is_border taken aux (the-literal v t)) f ∙ sym (j.on_is v) ∙ sym (any-among v on) ∙ f
         at v false f b = ap (λ t. is_border taken aux (the-literal v t)) f ∙ elim (or_cases (is_border taken aux (the-literal v true)) (is_border taken aux (the-literal v false)) b) [
-            | inl s ↦ absurd (true≢false (sym s ∙ sym (j.on_is v) ∙ sym (any-among v on) ∙ f))
-            | inr s ↦ s
-          ]
+          | inl s ↦ absurd (true≢false (sym s ∙ sym (j.on_is v) ∙ sym (any-among v on) ∙ f))
+          | inr s ↦ s
+        ]
+
     sign : (b : Bool) (v : ℕ) → is_border taken aux (the-literal v b) ≡ true → is_among variables v ≡ true → list_any (nat_eq v) on ≡ b
     sign true v h i = any-among v on ∙ j.on_is v ∙ h
     sign false v h i =
@@ -238,16 +253,18 @@ sided-has taken aux on off variables j e l = bool-same (has (map (sided on) vari
         only : (a b : Bool) → b ≡ true → (a && b) ≡ false → a ≡ false
         only true b e f = absurd (true≢false (sym e ∙ f))
         only false b e f = refl
+
     inside : (b : Bool) (v : ℕ) → is_border taken aux (the-literal v b) ≡ true → is_among variables v ≡ true
     inside true v h = (border-variables taken aux on off variables j).1 v ∙ or_left (is_border taken aux (the-literal v true)) (is_border taken aux (the-literal v false)) h
     inside false v h = (border-variables taken aux on off variables j).1 v ∙ or_right (is_border taken aux (the-literal v true)) (is_border taken aux (the-literal v false)) h
+
     back : is_border taken aux l ≡ true → has (map (sided on) variables) l ≡ true
     back h =
         let i = inside l.positive l.variable h in
         let q = any-with (λ v. (f : ℕ → Bool) → f v ≡ true → list_any f variables ≡ true) (λ v. v == l.variable) variables (each-any variables) i in
         let s = sign l.positive l.variable h i in
         any-map (sided on) (is_same l) variables ∙ q.2 (λ v. is_same l (sided on v))
-          (ap (λ v. is_same l (sided on v)) (eqb-true q.0 l.variable q.1) ∙ ap (λ b. is_same l (the-literal l.variable b)) s ∙ same-refl l)
+        (ap (λ v. is_same l (sided on v)) (eqb-true q.0 l.variable q.1) ∙ ap (λ b. is_same l (the-literal l.variable b)) s ∙ same-refl l)
 
 pub border-is : (taken : List Bounded) (aux on off variables : List ℕ) (border : List Literal) → IsJudged taken aux on off variables → first_in_both on off variables ≡ None → border ≡ map (sided on) variables → IsBorder taken aux border
 border-is taken aux on off variables border j e is = subst (IsBorder taken aux) (sym is)
@@ -266,7 +283,7 @@ pub border-known : (s : Stored) (set aux : List ℕ) → IsSide s set aux → (l
 border-known s set aux side l b =
     let parts = and_parts (stands (taken_by s aux) l) (not (is_among aux l.variable)) b in
     let q = any-with (IsLive s) (λ p. has (named p.constraint) l && touches aux p.constraint) s.live (all-live s side.stored)
-      (sym (any-map (λ p. p.constraint) (λ c. has (named c) l && touches aux c) s.live) ∙ sym (any-filter (λ c. has (named c) l) (touches aux) (constraints_of s.live)) ∙ parts.0) in
+    (sym (any-map (λ p. p.constraint) (λ c. has (named c) l && touches aux c) s.live) ∙ sym (any-filter (λ c. has (named c) l) (touches aux) (constraints_of s.live)) ∙ parts.0) in
     let p = q.0 in
     let both = and_parts (has (named p.constraint) l) (touches aux p.constraint) q.1 in
     let t = touched aux p.constraint both.1 in

@@ -40,9 +40,10 @@ any-with {X} P f (x ∷ xs) h e = at (or_cases (f x) (list_any f xs) e) (λ s. a
 pub each-any : {X : Type 0} (xs : List X) → AllByRecursion (λ x. (f : X → Bool) → f x ≡ true → list_any f xs ≡ true) xs
 each-any [] = tt
 each-any {X} (x ∷ xs) = (
-    (λ f e. or_left (f x) (list_any f xs) e),
-    all-one (λ y. (f : X → Bool) → f y ≡ true → list_any f xs ≡ true) (λ y. (f : X → Bool) → f y ≡ true → list_any f (x ∷ xs) ≡ true)
-      (λ y h f e. or_right (f x) (list_any f xs) (h f e)) xs (each-any xs))
+  (λ f e. or_left (f x) (list_any f xs) e),
+  all-one (λ y. (f : X → Bool) → f y ≡ true → list_any f xs ≡ true) (λ y. (f : X → Bool) → f y ≡ true → list_any f (x ∷ xs) ≡ true)
+      (λ y h f e. or_right (f x) (list_any f xs) (h f e)) xs (each-any xs),
+)
 
 pub any-map : {X Y : Type 0} (h : X → Y) (f : Y → Bool) (xs : List X) → list_any f (map h xs) ≡ list_any (λ x. f (h x)) xs
 any-map h f [] = refl
@@ -110,6 +111,7 @@ among-end xs v x e = at (or_cases (is_among xs x) (is_among (v ∷ []) x) (sym (
     last : ((v == x) ≡ true) ⊎ (false ≡ true) → x ≡ v
     last (inl h) = sym (eqb-true v x h)
     last (inr h) = absurd (true≢false (sym h))
+
     at : (is_among xs x ≡ true) ⊎ (is_among (v ∷ []) x ≡ true) → (is_among xs x ≡ true) ⊎ (x ≡ v)
     at (inl h) = inl h
     at (inr h) = inr (last (or_cases (v == x) false h))

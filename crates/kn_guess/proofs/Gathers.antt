@@ -53,6 +53,7 @@ joins-or Q limit set v same more = full (nat_lt limit (length set)) (there (list
     there : (t : Bool) → list_any (nat_eq v) set ≡ t → Q (cond t set (set ++ v ∷ []))
     there true e = same
     there false e = more (sym (any-among v set) ∙ e)
+
     full : (t : Bool) → Q (insert_key nat_eq set v) → Q (cond t set (insert_key nat_eq set v))
     full true h = same
     full false h = h
@@ -147,7 +148,7 @@ pub all-ids : (P : ℕ → Type 0) (limit : ℕ) (key : Literal → Option ℕ) 
 all-ids P limit key live set [] h k = h
 all-ids P limit key live set (p ∷ ps) h k =
     all-ids P limit key live (with_found limit key set (constraint_at live p.id)) ps
-      (subst (λ o. AllByRecursion P (with_found limit key set o)) (sym k.0.0) (all-lits P limit key set p.constraint.lits h k.0.1)) k.1
+    (subst (λ o. AllByRecursion P (with_found limit key set o)) (sym k.0.0) (all-lits P limit key set p.constraint.lits h k.0.1)) k.1
 
 pub all-members : (P : ℕ → Type 0) (limit : ℕ) (key : Literal → Option ℕ) (live : List Numbered) (set xs : List ℕ) → AllByRecursion P set → AllByRecursion (λ x. AllByRecursion (HasKeys live P key) (naming x live)) xs
     → AllByRecursion P (with_members limit key live set xs)
@@ -175,10 +176,11 @@ missed-lits limit key set [] h = tt
 missed-lits limit key set (l ∷ ls) h =
     let next = with_number limit set (key l) in
     let end = with_lits limit key next ls in
-    let later = extends-lits limit key next ls in
-    (if-more (IsIn next) (IsIn end) (λ v e. among-extends next end v later e) (key l)
-      (in-number limit set (key l) (short-before limit set next (extends-number limit set (key l)) (short-before limit next end later h))),
-      missed-lits limit key next ls h)
+    let later = extends-lits limit key next ls in (
+      if-more (IsIn next) (IsIn end) (λ v e. among-extends next end v later e) (key l)
+          (in-number limit set (key l) (short-before limit set next (extends-number limit set (key l)) (short-before limit next end later h))),
+      missed-lits limit key next ls h,
+    )
 
 pub missed-ids : (limit : ℕ) (key : Literal → Option ℕ) (live : List Numbered) (set : List ℕ) (ps : List Numbered) → AllByRecursion (IsOwn live) ps → length (with_ids limit key live set (ids_of ps)) ≤ limit
     → AllByRecursion (λ p. AllKeys (IsIn (with_ids limit key live set (ids_of ps))) key p.constraint.lits) ps
@@ -188,11 +190,12 @@ missed-ids limit key live set (p ∷ ps) own h =
     let end = with_ids limit key live next (ids_of ps) in
     let later = extends-ids limit key live next (ids_of ps) in
     let is : next ≡ with_lits limit key set p.constraint.lits = ap (with_found limit key set) own.0 in
-    let short = short-before limit next end later h in
-    (all-one (λ l. IfSome (key l) (IsIn (with_lits limit key set p.constraint.lits))) (λ l. IfSome (key l) (IsIn end))
-      (λ l m. if-more (IsIn (with_lits limit key set p.constraint.lits)) (IsIn end) (λ v e. among-extends next end v later (ap (λ z. is_among z v) is ∙ e)) (key l) m)
-      p.constraint.lits (missed-lits limit key set p.constraint.lits (subst (λ z. length z ≤ limit) is short)),
-      missed-ids limit key live next ps own.1 h)
+    let short = short-before limit next end later h in (
+      all-one (λ l. IfSome (key l) (IsIn (with_lits limit key set p.constraint.lits))) (λ l. IfSome (key l) (IsIn end))
+          (λ l m. if-more (IsIn (with_lits limit key set p.constraint.lits)) (IsIn end) (λ v e. among-extends next end v later (ap (λ z. is_among z v) is ∙ e)) (key l) m)
+          p.constraint.lits (missed-lits limit key set p.constraint.lits (subst (λ z. length z ≤ limit) is short)),
+      missed-ids limit key live next ps own.1 h,
+    )
 
 pub missed-members : (limit : ℕ) (key : Literal → Option ℕ) (live : List Numbered) (set xs : List ℕ) → AllByRecursion (λ x. AllByRecursion (IsOwn live) (naming x live)) xs → length (with_members limit key live set xs) ≤ limit
     → AllByRecursion (λ x. AllByRecursion (λ p. AllKeys (IsIn (with_members limit key live set xs)) key p.constraint.lits) (naming x live)) xs
@@ -200,8 +203,9 @@ missed-members limit key live set [] own h = tt
 missed-members limit key live set (x ∷ xs) own h =
     let next = with_ids limit key live set (ids_of (naming x live)) in
     let end = with_members limit key live next xs in
-    let later = extends-members limit key live next xs in
-    (all-one (λ p. AllKeys (IsIn next) key p.constraint.lits) (λ p. AllKeys (IsIn end) key p.constraint.lits)
-      (λ p m. all-one (λ l. IfSome (key l) (IsIn next)) (λ l. IfSome (key l) (IsIn end)) (λ l n. if-more (IsIn next) (IsIn end) (λ v e. among-extends next end v later e) (key l) n) p.constraint.lits m)
-      (naming x live) (missed-ids limit key live set (naming x live) own.0 (short-before limit next end later h)),
-      missed-members limit key live next xs own.1 h)
+    let later = extends-members limit key live next xs in (
+      all-one (λ p. AllKeys (IsIn next) key p.constraint.lits) (λ p. AllKeys (IsIn end) key p.constraint.lits)
+          (λ p m. all-one (λ l. IfSome (key l) (IsIn next)) (λ l. IfSome (key l) (IsIn end)) (λ l n. if-more (IsIn next) (IsIn end) (λ v e. among-extends next end v later e) (key l) n) p.constraint.lits m)
+          (naming x live) (missed-ids limit key live set (naming x live) own.0 (short-before limit next end later h)),
+      missed-members limit key live next xs own.1 h,
+    )

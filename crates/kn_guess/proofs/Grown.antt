@@ -45,17 +45,18 @@ near-key s free start x p l seen member live name known near = at (nat_lt start 
           known = known;
           alone = alone;
           forced = λ other closed. closed.neighbours x l.variable (member.forced other closed) (ltb-true start l.variable q.0) alone
-            (live.some (λ c. names (named c) x && names (named c) l.variable) (and-both (names (named p.constraint) x) (names (named p.constraint) l.variable) name near));
+              (live.some (λ c. names (named c) x && names (named c) l.variable) (and-both (names (named p.constraint) x) (names (named p.constraint) l.variable) name near));
         }
 
 near-all : (s : Stored) (free : List Bool) (start x : ℕ) → IsStored s → IsSeen s free → IsMember s start x → AllByRecursion (HasKeys s.live (IsMember s start) (later_key start free)) (naming x s.live)
 near-all s free start x stored seen member = all-one (λ p. IsLive s p × (names (named p.constraint) x ≡ true)) (HasKeys s.live (IsMember s start) (later_key start free))
     (λ p h.
-      let plain = clause-named p.constraint (is-plain s x p h.0 member.alone h.1) in
-      (h.0.own,
-        all-two (IsKnown s.vars) (λ l. names p.constraint.lits l.variable ≡ true) (λ l. IfSome (later_key start free l) (IsMember s start))
+    let plain = clause-named p.constraint (is-plain s x p h.0 member.alone h.1) in (
+      h.0.own,
+      all-two (IsKnown s.vars) (λ l. names p.constraint.lits l.variable ≡ true) (λ l. IfSome (later_key start free l) (IsMember s start))
           (λ l known near. near-key s free start x p l seen member h.0 h.1 known (ap (λ z. names z l.variable) plain ∙ near))
-          p.constraint.lits h.0.fits.within.lits (own-names p.constraint.lits)))
+          p.constraint.lits h.0.fits.within.lits (own-names p.constraint.lits),
+    ))
     (naming x s.live) (all-naming s x stored)
 
 -- a neighbour is found
@@ -63,49 +64,53 @@ key-in : (s : Stored) (free : List Bool) (start z : ℕ) (new : List ℕ) (l : L
     → IfSome (later_key start free l) (IsIn new) → is_among new z ≡ true
 key-in s free start z new l seen low none is known found =
     let test = and-both (nat_lt start l.variable) (get_or free (l.variable - 1) false) (lt-ltb start l.variable (subst (λ v. start < v) (sym is) low))
-      (seen.says l.variable known.0 known.1 ∙ ap not (ap (in_klause (constraints_of s.live)) is ∙ none)) in
+    (seen.says l.variable known.0 known.1 ∙ ap not (ap (in_klause (constraints_of s.live)) is ∙ none)) in
     subst (λ v. is_among new v ≡ true) is
-      (subst (λ o. IfSome o (IsIn new)) (cond-true (nat_lt start l.variable && get_or free (l.variable - 1) false) (Some l.variable) None test) found)
+    (subst (λ o. IfSome o (IsIn new)) (cond-true (nat_lt start l.variable && get_or free (l.variable - 1) false) (Some l.variable) None test) found)
 
 near-found : (s : Stored) (free : List Bool) (start x z : ℕ) (new : List ℕ) → IsStored s → IsSeen s free → in_klause (constraints_of s.live) x ≡ false → start < z → in_klause (constraints_of s.live) z ≡ false
     → share (constraints_of s.live) x z ≡ true → AllByRecursion (λ p. AllKeys (IsIn new) (later_key start free) p.constraint.lits) (naming x s.live) → is_among new z ≡ true
 near-found s free start x z new stored seen alone low none near all =
     let q = any-with (λ p. IsLive s p × (names (named p.constraint) x ≡ true → AllKeys (IsIn new) (later_key start free) p.constraint.lits)) (λ p. names (named p.constraint) x && names (named p.constraint) z) s.live
-      (all-two (IsLive s) (λ p. names (named p.constraint) x ≡ true → AllKeys (IsIn new) (later_key start free) p.constraint.lits)
-        (λ p. IsLive s p × (names (named p.constraint) x ≡ true → AllKeys (IsIn new) (later_key start free) p.constraint.lits)) (λ p a b. (a, b)) s.live (all-live s stored)
-        (all-unfilter (λ p. AllKeys (IsIn new) (later_key start free) p.constraint.lits) (λ p. names (named p.constraint) x) s.live all))
-      (sym (any-map (λ p. p.constraint) (λ c. names (named c) x && names (named c) z) s.live) ∙ near) in
+    (all-two (IsLive s) (λ p. names (named p.constraint) x ≡ true → AllKeys (IsIn new) (later_key start free) p.constraint.lits)
+    (λ p. IsLive s p × (names (named p.constraint) x ≡ true → AllKeys (IsIn new) (later_key start free) p.constraint.lits)) (λ p a b. (a, b)) s.live (all-live s stored)
+    (all-unfilter (λ p. AllKeys (IsIn new) (later_key start free) p.constraint.lits) (λ p. names (named p.constraint) x) s.live all))
+    (sym (any-map (λ p. p.constraint) (λ c. names (named c) x && names (named c) z) s.live) ∙ near) in
     let p = q.0 in
     let both = and_parts (names (named p.constraint) x) (names (named p.constraint) z) q.1 in
     let plain = clause-named p.constraint (is-plain s x p q.2.0 alone both.0) in
     let r = any-with (λ l. IsKnown s.vars l × IfSome (later_key start free l) (IsIn new)) (λ l. l.variable == z) p.constraint.lits
-      (all-two (IsKnown s.vars) (λ l. IfSome (later_key start free l) (IsIn new)) (λ l. IsKnown s.vars l × IfSome (later_key start free l) (IsIn new)) (λ l a b. (a, b)) p.constraint.lits q.2.0.fits.within.lits (q.2.1 both.0))
-      (sym (ap (λ w. names w z) plain) ∙ both.1) in
+    (all-two (IsKnown s.vars) (λ l. IfSome (later_key start free l) (IsIn new)) (λ l. IsKnown s.vars l × IfSome (later_key start free l) (IsIn new)) (λ l a b. (a, b)) p.constraint.lits q.2.0.fits.within.lits (q.2.1 both.0))
+    (sym (ap (λ w. names w z) plain) ∙ both.1) in
     key-in s free start z new r.0 seen low none (eqb-true r.0.variable z r.1) r.2.0 r.2.1
 
 -- the turn of one member
 grown-turn : (s : Stored) (free : List Bool) (start at x : ℕ) (set : List ℕ) → IsStored s → IsSeen s free → IsGrown s start at set → take (at + 1) set ≡ take at set ++ x ∷ [] → is_among set x ≡ true → at + 1 ≤ length set
     → length (with_ids 256 (later_key start free) s.live set (ids_of (naming x s.live))) ≤ 256 → IsGrown s start (at + 1) (with_ids 256 (later_key start free) s.live set (ids_of (naming x s.live)))
 grown-turn s free start at x set stored seen grown front inside high short = record {
-      seed_in = among-extends set new start more grown.seed_in;
-      members = all-ids (IsMember s start) 256 (later_key start free) s.live set (naming x s.live) grown.members (near-all s free start x stored seen member);
-      apart = apart-ids 256 (later_key start free) s.live set (ids_of (naming x s.live)) grown.apart;
-      done = λ y z i low none near. done y z low none near (among-end (take at set) x y (sym (ap (λ w. is_among w y) taken) ∙ i));
-    }
+  seed_in = among-extends set new start more grown.seed_in;
+  members = all-ids (IsMember s start) 256 (later_key start free) s.live set (naming x s.live) grown.members (near-all s free start x stored seen member);
+  apart = apart-ids 256 (later_key start free) s.live set (ids_of (naming x s.live)) grown.apart;
+  done = λ y z i low none near. done y z low none near (among-end (take at set) x y (sym (ap (λ w. is_among w y) taken) ∙ i));
+}
   where
     new : List ℕ
     new = with_ids 256 (later_key start free) s.live set (ids_of (naming x s.live))
+
     more : Extends set new
     more = extends-ids 256 (later_key start free) s.live set (ids_of (naming x s.live))
+
     member : IsMember s start x
     member = all-among (IsMember s start) set x grown.members inside
+
     taken : take (at + 1) new ≡ take at set ++ x ∷ []
     taken = ap (take (at + 1)) more.1 ∙ take-append-le (at + 1) set more.0 high ∙ front
+
     done : (y z : ℕ) → start < z → in_klause (constraints_of s.live) z ≡ false → share (constraints_of s.live) y z ≡ true → (is_among (take at set) y ≡ true) ⊎ (y ≡ x) → is_among new z ≡ true
     done y z low none near (inl j) = among-extends set new z more (grown.done y z j low none near)
     done y z low none near (inr e) =
         near-found s free start x z new stored seen member.alone low none (ap (λ w. share (constraints_of s.live) w z) (sym e) ∙ near)
-          (missed-ids 256 (later_key start free) s.live set (naming x s.live) (all-one (λ p. IsLive s p × (names (named p.constraint) x ≡ true)) (IsOwn s.live) (λ p h. h.0.own) (naming x s.live) (all-naming s x stored)) short)
+        (missed-ids 256 (later_key start free) s.live set (naming x s.live) (all-one (λ p. IsLive s p × (names (named p.constraint) x ≡ true)) (IsOwn s.live) (λ p h. h.0.own) (naming x s.live) (all-naming s x stored)) short)
 
 member-at : (set : List ℕ) (at x : ℕ) → take (at + 1) set ≡ take at set ++ x ∷ [] → is_among set x ≡ true
 member-at set at x e = among-extends (take (at + 1) set) set x (drop (at + 1) set, sym (take-append-drop (at + 1) set)) (ap (λ w. is_among w x) e ∙ among-last (take at set) x)
@@ -132,11 +137,12 @@ over s free start at x set new stored seen grown e is many =
 
 pub finished : (s : Stored) (start at : ℕ) (set : List ℕ) → IsGrown s start at set → slice_get set at ≡ None → IsLeastFrom (constraints_of s.live) start set
 finished s start at set grown e = (
-    record {
-      seed_in = grown.seed_in;
-      neighbours = λ x z i low none near. grown.done x z (ap (λ w. is_among w x) (take_all at set past) ∙ i) low none near;
-    },
-    λ other closed x i. (all-among (IsMember s start) set x grown.members i).forced other closed)
+  record {
+    seed_in = grown.seed_in;
+    neighbours = λ x z i low none near. grown.done x z (ap (λ w. is_among w x) (take_all at set past) ∙ i) low none near;
+  },
+  λ other closed x i. (all-among (IsMember s start) set x grown.members i).forced other closed,
+)
   where
     past : length set ≤ at
     past = elim (cases_lt at (length set)) [ inl h ↦ absurd (differ (sym (slice_get-get_or set at 0 h) ∙ e)) | inr h ↦ h ]

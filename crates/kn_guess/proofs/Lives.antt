@@ -20,10 +20,10 @@ pub record IsLive (s : Stored) (p : Numbered) : Type 0 where
 pub all-live : (s : Stored) → IsStored s → AllByRecursion (IsLive s) s.live
 all-live s stored =
     all-two (λ p. IsOwn s.live p × Fits s.vars p.constraint) (λ p. (f : Bounded → Bool) → f p.constraint ≡ true → list_any f (constraints_of s.live) ≡ true) (IsLive s)
-      (λ p a b. record { own = a.0; fits = a.1; some = b }) s.live
-      (all-two (IsOwn s.live) (λ p. Fits s.vars p.constraint) (λ p. IsOwn s.live p × Fits s.vars p.constraint) (λ p a b. (a, b)) s.live
-        (own s.live (rises (ids_of s.live) stored.ascending)) (from-map (λ p. p.constraint) (Fits s.vars) s.live stored.formula))
-      (from-map (λ p. p.constraint) (λ c. (f : Bounded → Bool) → f c ≡ true → list_any f (constraints_of s.live) ≡ true) s.live (each-any (constraints_of s.live)))
+    (λ p a b. record { own = a.0; fits = a.1; some = b }) s.live
+    (all-two (IsOwn s.live) (λ p. Fits s.vars p.constraint) (λ p. IsOwn s.live p × Fits s.vars p.constraint) (λ p a b. (a, b)) s.live
+    (own s.live (rises (ids_of s.live) stored.ascending)) (from-map (λ p. p.constraint) (Fits s.vars) s.live stored.formula))
+    (from-map (λ p. p.constraint) (λ c. (f : Bounded → Bool) → f c ≡ true → list_any f (constraints_of s.live) ≡ true) s.live (each-any (constraints_of s.live)))
 
 -- those that name a variable
 pub all-naming : (s : Stored) (x : ℕ) → IsStored s → AllByRecursion (λ p. IsLive s p × (names (named p.constraint) x ≡ true)) (naming x s.live)

@@ -20,11 +20,12 @@ all-same P xs ys same h = all-one (λ y. is_among ys y ≡ true) P (λ y i. all-
 
 pub least-same : (cs : List Bounded) (start : ℕ) (xs ys : List ℕ) → ((x : ℕ) → is_among ys x ≡ is_among xs x) → IsLeastFrom cs start xs → IsLeastFrom cs start ys
 least-same cs start xs ys same least = (
-    record {
-      seed_in = same start ∙ least.0.seed_in;
-      neighbours = λ x z i low none near. same z ∙ least.0.neighbours x z (sym (same x) ∙ i) low none near;
-    },
-    λ other closed x i. least.1 other closed x (sym (same x) ∙ i))
+  record {
+    seed_in = same start ∙ least.0.seed_in;
+    neighbours = λ x z i low none near. same z ∙ least.0.neighbours x z (sym (same x) ∙ i) low none near;
+  },
+  λ other closed x i. least.1 other closed x (sym (same x) ∙ i),
+)
 
 pub refused-border : (cs : List Bounded) (start : ℕ) (set : List ℕ) (why : NoGuess) → is_seed cs start ≡ true → IsLeastFrom cs start set → length set ≤ 256 → IsBorderRefused (filter (touches set) cs) set why → IsRefused cs start why
 refused-border cs start set NotSeed seed least few h = absurd h

@@ -41,13 +41,14 @@ ids-same s aux id = any-flat (λ v. v == id) (λ x. ids_of (naming x s.live)) au
         let p = any-with (λ p. (f : Numbered → Bool) → f p ≡ true → list_any f s.live ≡ true) (λ p. (p.id == id) && names (named p.constraint) x.0) s.live (each-any s.live) (sym (among-named s x.0 id) ∙ x.1) in
         let both = and_parts (p.0.id == id) (names (named p.0.constraint) x.0) p.1 in
         among-chosen s (touches aux) id ∙ p.2 (λ q. (q.id == id) && touches aux q.constraint) (and-both (p.0.id == id) (touches aux p.0.constraint) both.0 (touches-from aux p.0.constraint x.0 x.2 both.1))
+
     back : is_among (ids_of (chosen (touches aux) s.live)) id ≡ true → list_any (λ x. is_among (ids_of (naming x s.live)) id) aux ≡ true
     back e =
         let p = any-with (λ p. (f : Numbered → Bool) → f p ≡ true → list_any f s.live ≡ true) (λ p. (p.id == id) && touches aux p.constraint) s.live (each-any s.live) (sym (among-chosen s (touches aux) id) ∙ e) in
         let both = and_parts (p.0.id == id) (touches aux p.0.constraint) p.1 in
         let t = touched aux p.0.constraint both.1 in
         any-from (λ x. is_among (ids_of (naming x s.live)) id) aux t.0 t.1
-          (among-named s t.0 id ∙ p.2 (λ q. (q.id == id) && names (named q.constraint) t.0) (and-both (p.0.id == id) (names (named p.0.constraint) t.0) both.0 t.2))
+        (among-named s t.0 id ∙ p.2 (λ q. (q.id == id) && names (named q.constraint) t.0) (and-both (p.0.id == id) (names (named p.0.constraint) t.0) both.0 t.2))
 
 pub ids-are : (s : Stored) (aux ids : List ℕ) → IsStored s → IsStrictlyIncreasing ids → ((x : ℕ) → is_among ids x ≡ is_among (ids_with s.live aux) x) → ids ≡ ids_of (chosen (touches aux) s.live)
 ids-are s aux ids stored up same =
@@ -72,8 +73,8 @@ taken-same test (p ∷ ps) = at (test p.constraint) (taken-same test ps)
 taken-clauses : (s : Stored) (aux : List ℕ) → IsStored s → AllByRecursion (λ x. in_klause (constraints_of s.live) x ≡ false) aux → AllByRecursion (λ c. is_clause c ≡ true) (constraints_of (chosen (touches aux) s.live))
 taken-clauses s aux stored alone = to-map (λ p. p.constraint) (λ c. is_clause c ≡ true) (chosen (touches aux) s.live)
     (all-two (IsLive s) (λ p. touches aux p.constraint ≡ true) (λ p. is_clause p.constraint ≡ true)
-      (λ p live t. let q = touched aux p.constraint t in is-plain s q.0 p live (all-among (λ x. in_klause (constraints_of s.live) x ≡ false) aux q.0 alone q.1) q.2)
-      (chosen (touches aux) s.live) (all-filter (IsLive s) (λ p. touches aux p.constraint) s.live (all-live s stored)) (all-pass (λ p. touches aux p.constraint) s.live))
+    (λ p live t. let q = touched aux p.constraint t in is-plain s q.0 p live (all-among (λ x. in_klause (constraints_of s.live) x ≡ false) aux q.0 alone q.1) q.2)
+    (chosen (touches aux) s.live) (all-filter (IsLive s) (λ p. touches aux p.constraint) s.live (all-live s stored)) (all-pass (λ p. touches aux p.constraint) s.live))
 
 covers : (aux : List ℕ) (taken : List Bounded) (border : List Literal) (c : Bounded) (l : Literal) → ((l : Literal) → has border l ≡ is_border taken aux l) → ((f : Bounded → Bool) → f c ≡ true → list_any f taken ≡ true) → is_clause c ≡ true → has c.lits l ≡ true
     → (is_among aux l.variable || has border l) ≡ true
@@ -93,8 +94,8 @@ group-is s aux taken border stored known alone up is edge =
       aux = up;
       border = edge.0;
       apart = all-one (λ l. has border l ≡ true) (λ l. is_among aux l.variable ≡ false)
-        (λ l h. not-true (is_among aux l.variable) (and_parts (stands taken l) (not (is_among aux l.variable)) (sym (edge.1 l) ∙ h)).1) border (own-has border);
+          (λ l h. not-true (is_among aux l.variable) (and_parts (stands taken l) (not (is_among aux l.variable)) (sym (edge.1 l) ∙ h)).1) border (own-has border);
       clauses = clauses;
       covered = all-two (λ c. (f : Bounded → Bool) → f c ≡ true → list_any f taken ≡ true) (λ c. is_clause c ≡ true) (λ c. AllByRecursion (λ l. (is_among aux l.variable || has border l) ≡ true) c.lits)
-        (λ c some clause. all-one (λ l. has c.lits l ≡ true) (λ l. (is_among aux l.variable || has border l) ≡ true) (λ l stand. covers aux taken border c l edge.1 some clause stand) c.lits (own-has c.lits)) taken (each-any taken) clauses;
+          (λ c some clause. all-one (λ l. has c.lits l ≡ true) (λ l. (is_among aux l.variable || has border l) ≡ true) (λ l stand. covers aux taken border c l edge.1 some clause stand) c.lits (own-has c.lits)) taken (each-any taken) clauses;
     }

@@ -43,7 +43,13 @@ pub(crate) fn least(
     let later = Later { seed, free };
     let mut at = 0;
     while let Some(member) = set.get(at) {
-        add_ids(&mut set, MOST_AUX, &later, store, store.with_variable(member))?;
+        add_ids(
+            &mut set,
+            MOST_AUX,
+            &later,
+            store,
+            store.with_variable(member),
+        )?;
         if set.len() > MOST_AUX {
             return Ok(None);
         }
@@ -66,7 +72,13 @@ pub(crate) fn side(
     let mut side = VarSet::new(alloc);
     let outside = Outside { set, positive };
     for member in members {
-        add_ids(&mut side, MOST_BORDER, &outside, store, store.with_variable(*member))?;
+        add_ids(
+            &mut side,
+            MOST_BORDER,
+            &outside,
+            store,
+            store.with_variable(*member),
+        )?;
     }
     Ok(side)
 }

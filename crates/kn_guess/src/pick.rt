@@ -8,6 +8,7 @@ use kn_logic::Lit;
 
 pub(crate) trait Pick {
     ghost key: { Self → Literal → Option ℕ };
+
     fn pick(&self, lit: Lit) -> Option<u64>
         ensures { result ≡ key self.now lit };
 }

@@ -22,7 +22,11 @@ pub(crate) fn ascending(numbers: Vec<u64>) -> Vec<u64>
 }
 
 // The ids of the constraints that name one of the variables, ascending.
-pub(crate) fn ids_with(alloc: Global, store: &Store, variables: &[u64]) -> Result<Vec<u64>, NoMemory>
+pub(crate) fn ids_with(
+    alloc: Global,
+    store: &Store,
+    variables: &[u64],
+) -> Result<Vec<u64>, NoMemory>
     requires { AllByRecursion (λ x. (1 ≤ x) × (x ≤ store.now.vars)) variables.now }
     ensures { IfOk result (λ ids. ids.items ≡ ids_with store.now.live variables.now) }
 {

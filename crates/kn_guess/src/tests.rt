@@ -43,7 +43,10 @@ fn why(alloc: Global, s: &Store, seed: u64) -> Option<NoGuess>
 fn hidden_count_is_guessed(rt: HostRuntime) -> Result<(), Fail> {
     let s = hidden(rt.alloc())?;
     for seed in 1..=3 {
-        assert!(rt; why(rt.alloc(), &s, seed) == Some(NoGuess::SmallBorder), "seed {seed}");
+        assert!(rt;
+            why(rt.alloc(), &s, seed) == Some(NoGuess::SmallBorder),
+            "seed {seed}"
+        );
     }
     assert!(rt; why(rt.alloc(), &s, 5).is_none());
     let Ok(g) = aux_guess(rt.alloc(), &s, 4) else {
@@ -58,7 +61,11 @@ fn hidden_count_is_guessed(rt: HostRuntime) -> Result<(), Fail> {
 #[test]
 fn guards_are_in_klauses(rt: HostRuntime) -> Result<(), Fail> {
     let mut s = hidden(rt.alloc())?;
-    s.add(Constraint::guarded(Lit::new(4, true), 1, vec![in rt.alloc(); Lit::new(5, true)]?))?;
+    s.add(Constraint::guarded(
+        Lit::new(4, true),
+        1,
+        vec![in rt.alloc(); Lit::new(5, true)]?,
+    ))?;
     let want = [
         (1, NoGuess::SmallBorder),
         (2, NoGuess::TwoSided { var: 5 }),

@@ -154,8 +154,10 @@ same-digits (suc n) a b e v first last =
   where
     low : (c d m k : ℕ) → c + 3 * m ≡ d + 3 * k → c < 3 → d < 3 → c ≡ d
     low c d m k e f g = omega (arith, e, f, g)
+
     high : (c d m k : ℕ) → c + 3 * m ≡ d + 3 * k → c < 3 → d < 3 → m ≡ k
     high c d m k e f g = omega (arith, e, f, g)
+
     less : (v n : ℕ) → v ≤ suc n → (v ≡ suc n → ⊥) → v ≤ n
     less v n h d = omega (arith, h, d)
 

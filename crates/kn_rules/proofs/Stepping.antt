@@ -183,7 +183,7 @@ searches-append vars forget deletions old mid new (line ∷ a) b none (s, steps,
   allows,
   λ lemma. absurd (not_both (is_lemma line) lemma none.0),
   searches-append vars forget (deletions + cond (is_deletion line) 1 0) s mid new a b none.1 more
-  (subst (λ (n : ℕ). SearchesBy vars forget n mid b new) (omega arith) next),
+      (subst (λ (n : ℕ). SearchesBy vars forget n mid b new) (omega arith) next),
 )
   where
     not_both : (b : Bool) → b ≡ true → b ≡ false → ⊥

@@ -7,6 +7,7 @@ ghost use Rattle.kn_rules.specs.Steps.{follow, deleted, with_given, with_one, de
 ghost use Rattle.kn_rules.specs.Feeding.{Feeds};
 ghost use Rattle.kn_rules.specs.declared.checker.FeedError.TheVariants.{Memory};
 
+use crate::assumed::Assumed;
 use crate::clauses::{constraint_of, definition_given, is_unit};
 use crate::definitions::Definitions;
 use crate::deletion::{discard, put_back, take_out};
@@ -14,7 +15,6 @@ use crate::grid::is_root;
 use crate::hints::follows;
 use crate::ids::live;
 use crate::known::{are_different, are_known, is_known, is_known_arm, is_plain};
-use crate::assumed::Assumed;
 use crate::{Definition, Given, Origin};
 use kn_lines::{Arm, Line};
 use kn_logic::{Constraint, Formula, Lit, NoMemory};

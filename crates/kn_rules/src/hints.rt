@@ -7,8 +7,8 @@ ghost use Rattle.kn_rules.specs.States.{AreLiveWithin};
 ghost use Rattle.kn_rules.specs.Steps.{hinted, is_conflict};
 
 use crate::Given;
-use crate::ids::{are_live, live};
 use crate::assumed::Assumed;
+use crate::ids::{are_live, live};
 use kn_logic::{Constraint, Lit, NoMemory};
 
 /// Whether the hints, run from the negations of the literals, end in conflict; `None` exactly where one of them
@@ -85,7 +85,11 @@ fn run_hints(
 fn conflict_before(given: &[Given], rest: &[u64]) -> Option<bool>
     ensures { result ≡ option_map (λ _. true) (hinted given.now rest.now) }
 {
-    if are_live(given, rest) { Some(true) } else { None }
+    if are_live(given, rest) {
+        Some(true)
+    } else {
+        None
+    }
 }
 
 /// Runs one hint, and tells whether the run goes on: it does not where it ends in conflict.
@@ -100,7 +104,12 @@ fn apply(assumed: &mut Assumed, hint: &Constraint) -> Result<bool, NoMemory>
     }
 }
 
-fn apply_guarded(assumed: &mut Assumed, guard: Lit, bound: u64, lits: &[Lit]) -> Result<bool, NoMemory>
+fn apply_guarded(
+    assumed: &mut Assumed,
+    guard: Lit,
+    bound: u64,
+    lits: &[Lit],
+) -> Result<bool, NoMemory>
     requires guard { IsKnown assumed.old.vars guard }
     requires known { AreKnown assumed.old.vars lits.now }
     ensures run { IfOk result (λ on. after_guard assumed.old.lits guard bound lits.now ≡ (if on then Some assumed.new.lits else None)) }

@@ -54,11 +54,7 @@ pub fn are_different(assumed: &mut Assumed, lits: &[Lit]) -> Result<bool, NoMemo
 
 /// Whether the constraint of an id has no guard and no variable at two places; `None` exactly where the id is not
 /// live.
-pub fn is_plain(
-    assumed: &mut Assumed,
-    given: &[Given],
-    id: u64,
-) -> Result<Option<bool>, NoMemory>
+pub fn is_plain(assumed: &mut Assumed, given: &[Given], id: u64) -> Result<Option<bool>, NoMemory>
     requires empty { assumed.old.lits ≡ [] }
     requires within { AreLiveWithin assumed.old.vars given.now }
     ensures value { IfOk result (λ found. found ≡ option_map (λ c. is_none c.guard && are_different c.lits) (live_at given.now id)) }

@@ -8,6 +8,7 @@
 //! the contracts, `Marks`, `Restoring` and `Demands` what the code keeps.
 #![tactic(auto)]
 
+mod assumed;
 mod checker;
 mod clauses;
 mod definition;
@@ -20,16 +21,16 @@ mod hints;
 mod ids;
 mod known;
 mod laws;
-mod assumed;
 mod whole;
 
+pub use assumed::Assumed;
 pub use checker::{Checker, FeedError};
 pub use definition::Definition;
 pub use given::{Given, Origin};
 pub use laws::{
-    a_variable_has_one_count, definitions_are_kept, never_both, proof_refutes, searches_go_on, searches_learn_few,
+    a_variable_has_one_count, definitions_are_kept, never_both, proof_refutes, searches_go_on,
+    searches_learn_few,
 };
-pub use assumed::Assumed;
 pub use whole::{Checked, check};
 
 #[cfg(test)]

@@ -12,7 +12,7 @@ loop-place-preserved c =
     let s = c.args.store.now in
     let items = c.in_ok-push.ensures.items in
     let says = table-push (λ x. not (in_klause (constraints_of s.live) x)) c.loop-place.free.items c.loop-place.place (not c.any_klause.result) c.loop-place.invariant.long c.loop-place.invariant.says
-      (ap not (c.any_klause.ensures ∙ ap (any_passes (λ d. not (is_clause d)) s.live) c.with_variable.ensures ∙ any-named (λ d. not (is_clause d)) s (c.loop-place.place + 1) c.vars-place-end.ensures.stored)) in
+    (ap not (c.any_klause.ensures ∙ ap (any_passes (λ d. not (is_clause d)) s.live) c.with_variable.ensures ∙ any-named (λ d. not (is_clause d)) s (c.loop-place.place + 1) c.vars-place-end.ensures.stored)) in
     record {
       long = ap length items ∙ length_push c.loop-place.free.items (not c.any_klause.result) ∙ ap (λ n. n + 1) c.loop-place.invariant.long;
       says = λ x low high. ap (λ z. slice_index_or z (x - 1) false) items ∙ says x low high;

@@ -21,13 +21,13 @@ pub returns-then-not-any_has : goal.returns-then-not-any_has
 returns-then-not-any_has c =
     let s = c.args.store.now in
     refused-on s c.args.var c.requires.stored
-      (ap₂ (λ (l : Literal) ids. any_passes (λ d. has (named d) l) s.live ids) (sym c.new.ensures) (sym c.with_variable-ids.ensures) ∙ sym c.any_has.ensures ∙ c.if-not-any_has.true)
+    (ap₂ (λ (l : Literal) ids. any_passes (λ d. has (named d) l) s.live ids) (sym c.new.ensures) (sym c.with_variable-ids.ensures) ∙ sym c.any_has.ensures ∙ c.if-not-any_has.true)
 
 pub returns : goal.returns
 returns c =
     let s = c.args.store.now in
     c.any_has-2.ensures ∙ ap₂ (λ (l : Literal) ids. any_passes (λ d. has (named d) l) s.live ids) c.new-2.ensures c.with_variable-ids.ensures
     ∙ seed-last s c.args.var c.requires.stored
-      (ap (any_passes (λ d. not (is_clause d)) s.live) (sym c.with_variable-ids.ensures) ∙ sym c.any_klause.ensures ∙ c.if-any_klause.false)
-      (ap (any_passes is_binary s.live) (sym c.with_variable-ids.ensures) ∙ sym c.any_binary.ensures ∙ c.if-not-any_binary.false)
-      (ap₂ (λ (l : Literal) ids. any_passes (λ d. has (named d) l) s.live ids) (sym c.new.ensures) (sym c.with_variable-ids.ensures) ∙ sym c.any_has.ensures ∙ c.if-not-any_has.false)
+    (ap (any_passes (λ d. not (is_clause d)) s.live) (sym c.with_variable-ids.ensures) ∙ sym c.any_klause.ensures ∙ c.if-any_klause.false)
+    (ap (any_passes is_binary s.live) (sym c.with_variable-ids.ensures) ∙ sym c.any_binary.ensures ∙ c.if-not-any_binary.false)
+    (ap₂ (λ (l : Literal) ids. any_passes (λ d. has (named d) l) s.live ids) (sym c.new.ensures) (sym c.with_variable-ids.ensures) ∙ sym c.any_has.ensures ∙ c.if-not-any_has.false)

@@ -78,7 +78,7 @@ returns-in-Some-clause-err c =
     let f = c.len-3.ensures in let low = c.if-len-lt-LEAST_BORDER.false in
     let h = c.len-4.ensures in let high = c.if-len-gt-MOST_BORDER-3.false in
     two-sided (taken_by s c.args.aux.now) c.args.aux.now on off variables c.in-Some.var judged (omega (arith, real, f, low)) (omega (arith, real, h, high))
-      (ap (first_in_both on off) (sym c.deref.ensures.value) ∙ sym c.first_in_both.ensures ∙ c.in-Some.is)
+    (ap (first_in_both on off) (sym c.deref.ensures.value) ∙ sym c.first_in_both.ensures ∙ c.in-Some.is)
 
 pub literals-requires : goal.literals-requires
 literals-requires c =
@@ -96,7 +96,7 @@ literals-requires c =
       all = c.in_ok-variables.ensures.same;
     } in
     subst (AllByRecursion (λ x. 1 ≤ x)) (sym c.deref-2.ensures.value)
-      (known-variables (taken_by s c.args.aux.now) c.args.aux.now on off variables judged (border-known s c.args.set.now c.args.aux.now side))
+    (known-variables (taken_by s c.args.aux.now) c.args.aux.now on off variables judged (border-known s c.args.set.now c.args.aux.now side))
 
 pub returns-clause-ok : goal.returns-clause-ok
 returns-clause-ok c =

@@ -13,7 +13,7 @@ returns-then-len-gt-MOST_AUX-clause-many c =
     let long = c.len.ensures in
     let high = c.if-len-gt-MOST_AUX.true in
     over s c.args.free.now c.args.seed c.loop-member.at c.in-Some.member c.loop-member.set c.add_ids.new.set c.requires.stored c.requires.seen c.loop-member.invariant.grown (sym c.get.ensures ∙ c.in-Some.is)
-      (c.in_ok-add_ids.ensures ∙ ap (λ w. with_ids 256 (later_key c.args.seed c.args.free.now) s.live c.loop-member.set w) c.with_variable.ensures) (omega (arith, long, high))
+    (c.in_ok-add_ids.ensures ∙ ap (λ w. with_ids 256 (later_key c.args.seed c.args.free.now) s.live c.loop-member.set w) c.with_variable.ensures) (omega (arith, long, high))
 
 pub overflow_add-at : goal.overflow_add-at
 overflow_add-at c =
@@ -34,7 +34,7 @@ loop-member-preserved c =
     let low = c.if-len-gt-MOST_AUX.false in
     record {
       grown = turn s c.args.free.now c.args.seed c.loop-member.at c.in-Some.member c.loop-member.set c.add_ids.new.set c.requires.stored c.requires.seen c.loop-member.invariant.grown (sym c.get.ensures ∙ c.in-Some.is)
-        (c.in_ok-add_ids.ensures ∙ ap (λ w. with_ids 256 (later_key c.args.seed c.args.free.now) s.live c.loop-member.set w) c.with_variable.ensures) (omega (arith, long, low));
+          (c.in_ok-add_ids.ensures ∙ ap (λ w. with_ids 256 (later_key c.args.seed c.args.free.now) s.live c.loop-member.set w) c.with_variable.ensures) (omega (arith, long, low));
       few = omega (arith, long, low);
     }
 

@@ -13,6 +13,6 @@ loop-member-preserved c =
     let cut = drop_more members at 0 c.loop-member-test.true in
     record {
       rest = ap (λ z. with_members 128 key s.live z (drop (at + 1) members)) (c.in_ok-add_ids.ensures ∙ ap (λ w. with_ids 128 key s.live c.loop-member.side w) c.with_variable.ensures)
-        ∙ ap (with_members 128 key s.live c.loop-member.side) (sym cut) ∙ c.loop-member.invariant.rest;
+          ∙ ap (with_members 128 key s.live c.loop-member.side) (sym cut) ∙ c.loop-member.invariant.rest;
       known = (subst (AllByRecursion (λ x. (1 ≤ x) × (x ≤ s.vars))) cut c.loop-member.invariant.known).1;
     }

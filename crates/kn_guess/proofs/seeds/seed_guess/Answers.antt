@@ -14,7 +14,7 @@ border-requires-clause-known c =
     let P : ℕ → Type 0 = λ x. (1 ≤ x) × (x ≤ s.vars) in
     let known = subst (λ o. IfSome o (AllByRecursion P)) c.in-Some.is c.in_ok-set.ensures.known in
     subst (AllByRecursion P) (sym c.deref.ensures.value)
-      (all-same P c.in-Some.set c.ascending-aux.result.items (λ x. c.ascending-aux.ensures.same x ∙ ap (λ z. is_among z x) (c.in_ok-from_slice.ensures.items ∙ c.vars.ensures)) known)
+    (all-same P c.in-Some.set c.ascending-aux.result.items (λ x. c.ascending-aux.ensures.same x ∙ ap (λ z. is_among z x) (c.in_ok-from_slice.ensures.items ∙ c.vars.ensures)) known)
 
 pub border-requires-clause-alone : goal.border-requires-clause-alone
 border-requires-clause-alone c =
@@ -22,7 +22,7 @@ border-requires-clause-alone c =
     let P : ℕ → Type 0 = λ x. in_klause (constraints_of s.live) x ≡ false in
     let alone = subst (λ o. IfSome o (AllByRecursion P)) c.in-Some.is c.in_ok-set.ensures.alone in
     subst (AllByRecursion P) (sym c.deref.ensures.value)
-      (all-same P c.in-Some.set c.ascending-aux.result.items (λ x. c.ascending-aux.ensures.same x ∙ ap (λ z. is_among z x) (c.in_ok-from_slice.ensures.items ∙ c.vars.ensures)) alone)
+    (all-same P c.in-Some.set c.ascending-aux.result.items (λ x. c.ascending-aux.ensures.same x ∙ ap (λ z. is_among z x) (c.in_ok-from_slice.ensures.items ∙ c.vars.ensures)) alone)
 
 pub taken-requires-clause-known : goal.taken-requires-clause-known
 taken-requires-clause-known c =
@@ -50,8 +50,8 @@ returns-in-Ok-clause-guess c =
     let n = ap length numbers in
     let edge = subst (λ z. IsBorder (filter (touches z) cs) z c.in-Ok.border.items) c.deref.ensures.value c.in-Ok.ensures.ok.0 in
     guess-is s c.args.seed aux c.in-Ok.border.items c.in_ok-taken-in-Ok.field-0.group c.in_ok-taken-in-Ok.field-0.ids (sym c.is_seed.ensures ∙ c.if-not-is_seed.false) c.ascending-aux.ensures.ascending
-      (least-same cs c.args.seed c.in-Some.set aux (λ x. c.ascending-aux.ensures.same x ∙ ap (λ z. is_among z x) numbers) least) (let f = few.1 in omega (arith, short, n, f))
-      edge c.in-Ok.ensures.ok.1 c.in-Ok.ensures.ok.2 c.in_ok-taken-in-Ok.ensures.aux c.in_ok-taken-in-Ok.ensures.border c.in_ok-taken-in-Ok.ensures.taken c.in_ok-taken-in-Ok.ensures.ids
+    (least-same cs c.args.seed c.in-Some.set aux (λ x. c.ascending-aux.ensures.same x ∙ ap (λ z. is_among z x) numbers) least) (let f = few.1 in omega (arith, short, n, f))
+    edge c.in-Ok.ensures.ok.1 c.in-Ok.ensures.ok.2 c.in_ok-taken-in-Ok.ensures.aux c.in_ok-taken-in-Ok.ensures.border c.in_ok-taken-in-Ok.ensures.taken c.in_ok-taken-in-Ok.ensures.ids
 
 pub returns-clause-refused : goal.returns-clause-refused
 returns-clause-refused c =
@@ -64,5 +64,5 @@ returns-clause-refused c =
     let short = c.ascending-aux.ensures.short in
     let n = ap length numbers in
     refused-border cs c.args.seed aux c.in-Err.why (sym c.is_seed.ensures ∙ c.if-not-is_seed.false)
-      (least-same cs c.args.seed c.in-Some.set aux (λ x. c.ascending-aux.ensures.same x ∙ ap (λ z. is_among z x) numbers) least) (let f = few.1 in omega (arith, short, n, f))
-      (subst (λ z. IsBorderRefused (filter (touches z) cs) z c.in-Err.why) c.deref.ensures.value c.in-Err.ensures.err)
+    (least-same cs c.args.seed c.in-Some.set aux (λ x. c.ascending-aux.ensures.same x ∙ ap (λ z. is_among z x) numbers) least) (let f = few.1 in omega (arith, short, n, f))
+    (subst (λ z. IsBorderRefused (filter (touches z) cs) z c.in-Err.why) c.deref.ensures.value c.in-Err.ensures.err)

@@ -22,7 +22,7 @@ new-requires c =
     let ids = ids-from s c.args.aux.items c.deref.result.now _ c.ascending-ids.result.items c.requires.stored c.ascending-ids.ensures.ascending c.ascending-ids.ensures.same c.in_ok-ids_with.ensures c.deref.ensures.value in
     let is = taken-from s c.args.aux.items c.deref-2.result.now c.ascending-ids.result.items c.in_ok-clauses.clauses.items c.requires.stored c.in_ok-clauses.ensures c.deref-2.ensures.value ids in
     group-is s c.args.aux.items c.in_ok-clauses.clauses.items c.args.border.items c.requires.stored c.requires.known c.requires.alone c.requires.ascending is
-      (subst (λ t. IsBorder t c.args.aux.items c.args.border.items) (sym (is ∙ taken-same (touches c.args.aux.items) s.live)) c.requires.border)
+    (subst (λ t. IsBorder t c.args.aux.items c.args.border.items) (sym (is ∙ taken-same (touches c.args.aux.items) s.live)) c.requires.border)
 
 pub new-requires-2-clause-each : goal.new-requires-2-clause-each
 new-requires-2-clause-each c =

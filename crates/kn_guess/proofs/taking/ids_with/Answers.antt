@@ -13,7 +13,7 @@ loop-var-preserved c =
     let cut = drop_more vars at 0 c.loop-var-test.true in
     record {
       rest = ap (λ z. z ++ ids_with s.live (drop (at + 1) vars)) (c.in_ok-extend_from_slice.ensures.items ∙ ap (λ w. c.loop-var.ids.items ++ w) c.with_variable.ensures)
-        ∙ append_assoc c.loop-var.ids.items (ids_of (naming (get_or vars at 0) s.live)) (ids_with s.live (drop (at + 1) vars))
-        ∙ ap (λ z. c.loop-var.ids.items ++ ids_with s.live z) (sym cut) ∙ c.loop-var.invariant.rest;
+          ∙ append_assoc c.loop-var.ids.items (ids_of (naming (get_or vars at 0) s.live)) (ids_with s.live (drop (at + 1) vars))
+          ∙ ap (λ z. c.loop-var.ids.items ++ ids_with s.live z) (sym cut) ∙ c.loop-var.invariant.rest;
       known = (subst (AllByRecursion (λ x. (1 ≤ x) × (x ≤ s.vars))) cut c.loop-var.invariant.known).1;
     }
