@@ -1,0 +1,5 @@
+pub mod Counts
+pub mod Values
+pub mod Branches
+pub mod Borders
+pub mod Bounds

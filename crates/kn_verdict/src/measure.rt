@@ -1,5 +1,5 @@
-ghost use Rattle.std.specs.Prelude.{◌≡◌, ◌≤◌, ◌<◌, ◌+◌, ◌-◌, Some, length, map, slice_get, slice_index, IfOk};
-ghost use Rattle.kn_diagram.specs.Diagrams.{IsTable, depth_of};
+ghost use Rattle.std.specs.Prelude.{◌≡◌, ◌≤◌, ◌⊎◌, ◌++◌, [], ◌∷◌, Some, length, map, slice_get, slice_index, IfOk, OnOk, OnErr};
+ghost use Rattle.kn_diagram.specs.Diagrams.{depth_of};
 ghost use Rattle.kn_verdict.specs.Numbers.{IsAtBorder, IsMeasured, AreMeasured};
 
 use crate::fewest::Fewest;
@@ -41,11 +41,14 @@ pub fn place_of(d: &Diagrams, group: &Group, node: Node) -> usize
     requires two { 2 ≤ node }
     ensures { slice_get (map (λ l. l.variable) group.now.border) result ≡ Some (slice_index d.now.order (depth_of d.now node)) }
 {
-    group.border().len() - 1 - (d.depth(node) - group.aux().len())
+    let below = d.depth(node) - group.aux().len();
+    group.border().len() - 1 - below
 }
 
 // Notes the numbers of a node, unless it has some.
 fn note(noted: &mut Measures, node: Node, numbers: Fewest) -> Result<(), NoMemory>
+    ensures ok { OnOk result ((noted.new ≡ noted.old) ⊎ (noted.new ≡ noted.old ++ (node, numbers) ∷ [])) }
+    ensures err { OnErr result (noted.new ≡ noted.old) }
 {
     if noted.get(node).is_none() {
         noted.insert(node, numbers)?;
