@@ -68,3 +68,17 @@ module _ (lits : List Literal) (l : Literal) (different : AreDifferent lits) (th
       bound = branch-bound;
       met = met (cases_lt (adds l true + h) (adds l false + k));
     }
+
+    -- the side with the lower number has values at which it is the wanted one
+    pub chosen-some : (g : (ℕ → Bool) → Bool) (m : ℕ) (b : Bool) → IsFewest lits g want m → adds l b + m ≤ number → (u : ℕ → Bool) → f u ≡ want
+        → (v : ℕ → Bool) × (g v ≡ want) × (count v lits ≡ m)
+    chosen-some g m b h low u e = h.met (omega (arith, low, branch-bound u e, count_le u lits))
+
+    -- and the fewest of them, with the variable, are the fewest of the whole
+    pub chosen-fewest : (g : (ℕ → Bool) → Bool) (m : ℕ) (b : Bool) → ((v : ℕ → Bool) (c : Bool) → g (with_value v l.variable c) ≡ g v) → IsFewest lits g want m
+        → adds l b + m ≤ number → (all : ℕ → Bool) → g all ≡ want → ((u : ℕ → Bool) → g u ≡ want → count all lits ≤ count u lits)
+        → (u : ℕ → Bool) → f u ≡ want → count (with_value all l.variable b) lits ≤ count u lits
+    chosen-fewest g m b free h low all e least u t =
+        let (v, is, c) = chosen-some g m b h low u t in
+        let same : count all lits ≡ m = omega (arith, least v is, c, h.bound all e) in
+        omega (arith, side-met g want m b free h all e same, low, branch-bound u t)

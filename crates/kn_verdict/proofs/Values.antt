@@ -1,10 +1,19 @@
 -- Values of variables that make chosen literals of a list true.
-use Rattle.std.proofs.Common.{◌≡◌, ℕ, zero, suc, ◌+◌, ◌-◌, ◌≤◌, ◌<◌, ◌==◌, ◌++◌, Bool, true, false, not, if◌then◌else◌, cond, List, [], ◌∷◌, length, map, replicate, slice_get, slice_set, Some, None, refl, sym, ap, ◌∙◌, subst, arith, length-append}
-use Rattle.std.proofs.lemmas.Bool.{or_parts, or_left, or_right, eq-eqb, eqb-true, false_from_ne_true, true≢false}
+use Rattle.std.proofs.Common.{◌≡◌, ℕ, zero, suc, ◌+◌, ◌-◌, ◌≤◌, ◌<◌, ◌==◌, ◌++◌, Bool, true, false, not, if◌then◌else◌, cond, List, [], ◌∷◌, length, map, replicate, slice_get, slice_set, get_or, inl, inr, ◌⊎◌, nat_lt, Some, None, refl, sym, ap, ◌∙◌, subst, arith, length-append}
+use Rattle.std.proofs.lemmas.Bool.{cases_lt, lt-ltb, le-ltb, or_parts, or_left, or_right, eq-eqb, eqb-true, false_from_ne_true, true≢false}
+use Rattle.std.proofs.lemmas.List.{get_or-map}
+use mathlib.Core.Bool.{beq}
 use Rattle.std.proofs.lemmas.Simd.{length-replicate}
-use Rattle.kn_logic.specs.Literals.{Literal, names, places, AreDifferent}
+use Rattle.kn_logic.specs.Literals.{Literal, negated, names, places, AreDifferent}
 use Rattle.kn_diagram.specs.Diagrams.{with_value, is_true_by}
+use Rattle.kn_verdict.specs.Numbers.{asked}
 use Rattle.kn_verdict.proofs.Counts.{count, own-value, other-value}
+
+head_same : (a b : Bool) (xs ys : List Bool) → a ∷ xs ≡ b ∷ ys → a ≡ b
+head_same a b xs ys e = cc
+
+tail_same : (a b : Bool) (xs ys : List Bool) → a ∷ xs ≡ b ∷ ys → xs ≡ ys
+tail_same a b xs ys e = cc
 
 -- a variable that no literal names changes none
 truths-other : (v : ℕ → Bool) (x : ℕ) (b : Bool) (lits : List Literal) → names lits x ≡ false → map (is_true_by (with_value v x b)) lits ≡ map (is_true_by v) lits
@@ -102,3 +111,51 @@ values-set v (l ∷ lits) (suc place) x b d h =
     let apart : (l.variable == x) ≡ false =
         false_from_ne_true (l.variable == x) (λ t. true≢false (sym (named_at lits place x h) ∙ ap (names lits) (sym (eqb-true l.variable x t)) ∙ d.0)) in
     (λ i. other-value v x l.variable b apart i ∷ values-set v lits place x b d.1 h i)
+
+first-zero : (m place : ℕ) → get_or (replicate m false) place false ≡ false
+first-zero zero place = refl
+first-zero (suc m) zero = refl
+first-zero (suc m) (suc place) = first-zero m place
+
+get_or-first : (first m place : ℕ) → get_or (replicate first true ++ replicate m false) place false ≡ nat_lt place first
+get_or-first zero m place = first-zero m place ∙ sym (le-ltb place 0 (omega arith))
+get_or-first (suc first) m zero = sym (lt-ltb 0 (suc first) (omega arith))
+get_or-first (suc first) m (suc place) = get_or-first first m place ∙ shift (cases_lt place first)
+  where
+    shift : ((place < first) ⊎ (first ≤ place)) → nat_lt place first ≡ nat_lt (suc place) (suc first)
+    shift (inl less) = lt-ltb place first less ∙ sym (lt-ltb (suc place) (suc first) (omega arith))
+    shift (inr more) = le-ltb place first more ∙ sym (le-ltb (suc place) (suc first) (omega arith))
+
+agrees : (p t b : Bool) → (if p then b else not b) ≡ t → b ≡ beq t p
+agrees true true b h = h
+agrees true false b h = h
+agrees false true true h = absurd (true≢false (sym h))
+agrees false true false h = refl
+agrees false false true h = refl
+agrees false false false h = absurd (true≢false h)
+
+-- the value of a literal's variable where exactly the first literals are true
+pub value-first : (v : ℕ → Bool) (lits : List Literal) (first place : ℕ) (l : Literal) → map (is_true_by v) lits ≡ first_truths (length lits) first
+    → place < length lits → l ≡ get_or lits place l → v l.variable ≡ beq (nat_lt place first) l.positive
+value-first v lits first place l e within is =
+    agrees l.positive (nat_lt place first) (v l.variable)
+      (ap (is_true_by v) is ∙ sym (get_or-map (is_true_by v) lits place l false within) ∙ ap (λ ts. get_or ts place false) e ∙ get_or-first first (length lits - first) place)
+
+-- values that make none of the literals that are asked for true
+pub avoided : (want : Bool) (v : ℕ → Bool) (lits : List Literal) → map (λ l. v l.variable) lits ≡ map (λ l. if want then not l.positive else l.positive) lits → count v (asked want lits) ≡ 0
+avoided true v [] e = refl
+avoided true v (l ∷ lits) e =
+    let own : is_true_by v l ≡ false = ap (λ b. if l.positive then b else not b) (head_same _ _ _ _ e) ∙ opposite l.positive in
+    omega (arith, ap (λ (b : Bool). cond {A = ℕ} b 1 0) own, avoided true v lits (tail_same _ _ _ _ e))
+  where
+    opposite : (p : Bool) → (if p then not p else not (not p)) ≡ false
+    opposite true = refl
+    opposite false = refl
+avoided false v [] e = refl
+avoided false v (l ∷ lits) e =
+    let own : is_true_by v (negated l) ≡ false = ap (λ b. if not l.positive then b else not b) (head_same _ _ _ _ e) ∙ opposite l.positive in
+    omega (arith, ap (λ (b : Bool). cond {A = ℕ} b 1 0) own, avoided false v lits (tail_same _ _ _ _ e))
+  where
+    opposite : (p : Bool) → (if not p then p else not p) ≡ false
+    opposite true = refl
+    opposite false = refl

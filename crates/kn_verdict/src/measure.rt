@@ -1,4 +1,4 @@
-ghost use Rattle.std.specs.Prelude.{◌≡◌, ◌≤◌, ◌⊎◌, ◌++◌, [], ◌∷◌, Some, length, map, slice_get, slice_index, IfOk, OnOk, OnErr};
+ghost use Rattle.std.specs.Prelude.{◌≡◌, ◌≤◌, ◌⊎◌, ◌++◌, [], ◌∷◌, Some, length, map, slice_get, slice_index, if◌then◌else◌, IfOk, OnOk, OnErr};
 ghost use Rattle.kn_diagram.specs.Diagrams.{depth_of};
 ghost use Rattle.kn_verdict.specs.Numbers.{IsAtBorder, IsMeasured, AreMeasured};
 
@@ -43,6 +43,13 @@ pub fn place_of(d: &Diagrams, group: &Group, node: Node) -> usize
 {
     let below = d.depth(node) - group.aux().len();
     group.border().len() - 1 - below
+}
+
+/// Of the parts of a node, the node for where its variable has this value.
+pub fn half(parts: (u64, Node, Node), value: bool) -> Node
+    ensures { result ≡ (if value then parts.1 else parts.2) }
+{
+    if value { parts.1 } else { parts.2 }
 }
 
 // Notes the numbers of a node, unless it has some.

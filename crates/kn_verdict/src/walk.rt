@@ -4,7 +4,7 @@ ghost use Rattle.kn_quant.specs.Runs.{CanHold};
 ghost use Rattle.kn_verdict.specs.Cardinals.{IsOnlyBound};
 ghost use Rattle.kn_verdict.specs.Numbers.{IsAtBorder};
 
-use crate::measure::place_of;
+use crate::measure::{half, place_of};
 use kn_diagram::{Diagrams, Node};
 use kn_logic::Group;
 
@@ -16,7 +16,7 @@ pub fn only_bound(d: &Diagrams, group: &Group, node: Node) -> u64
     ensures { IsOnlyBound group.now result }
 {
     let n = group.border().len();
-    for first in 0..=n {
+    for first in 0..n + 1 {
         if starts_at(d, group, node, first) {
             return first as u64;
         }
@@ -34,7 +34,7 @@ fn starts_at(d: &Diagrams, group: &Group, node: Node, first: usize) -> bool
     while let Some(parts) = d.parts(at) {
         let place = place_of(d, group, at);
         let value = (place < first) == group.border()[place].is_positive();
-        at = if value { parts.1 } else { parts.2 };
+        at = half(parts, value);
     }
     at == Node::TRUE
 }

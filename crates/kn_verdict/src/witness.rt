@@ -3,7 +3,7 @@ ghost use Rattle.kn_diagram.specs.Diagrams.{function_of};
 ghost use Rattle.kn_verdict.specs.Numbers.{IsAtBorder, AreMeasured, IsWitness, adds, asked_literal, number_of};
 
 use crate::fewest::Fewest;
-use crate::measure::{measure, place_of};
+use crate::measure::{half, measure, place_of};
 use crate::measures::Measures;
 use kn_diagram::{Diagrams, Node};
 use kn_logic::{Group, Lit, NoMemory};
@@ -32,8 +32,7 @@ pub fn witness(
     let low = measure(d, group, parts.2, noted)?;
     let place = place_of(d, group, node);
     let value = is_less(group.border()[place], high, low, want);
-    let child = if value { parts.1 } else { parts.2 };
-    let mut values = witness(alloc, d, group, child, noted, want)?;
+    let mut values = witness(alloc, d, group, half(parts, value), noted, want)?;
     values[place] = value;
     Ok(values)
 }
