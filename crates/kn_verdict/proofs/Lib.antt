@@ -4,3 +4,4 @@ pub mod Branches
 pub mod Borders
 pub mod Walks
 pub mod Bounds
+pub mod Deciding

@@ -2,7 +2,7 @@ ghost use Rattle.std.specs.Prelude.{◌≡◌, ◌≤◌, ◌+◌, length, IfOk}
 ghost use Rattle.kn_quant.specs.Eliminations.{IsEliminationOf};
 ghost use Rattle.kn_verdict.specs.Cardinals.{IsNarrow};
 ghost use Rattle.kn_verdict.specs.Verdicts.{IsVerdict};
-ghost use Rattle.kn_verdict.specs.Numbers.{AreMeasured, IsMeasured};
+ghost use Rattle.kn_verdict.specs.Numbers.{IsAtBorder, AreMeasured, IsMeasured};
 
 use crate::Verdict;
 use crate::fewest::Fewest;
@@ -10,6 +10,7 @@ use crate::measure::measure;
 use crate::measures::Measures;
 use crate::walk::only_bound;
 use crate::witness::witness;
+use kn_diagram::Node;
 use kn_logic::{Assignment, Group, NoMemory};
 use kn_quant::{Elimination, QuantError, eliminate};
 use std::alloc::{AllocError, Global};
@@ -37,7 +38,7 @@ fn decide(alloc: Global, group: &Group, elimination: Elimination) -> Result<Verd
 {
     let n = group.border().len() as u64;
     let mut noted = Measures::new(alloc);
-    let numbers = measure(elimination.diagrams(), group, elimination.result(), &mut noted)?;
+    let numbers = measure(elimination.diagrams(), group, root_of(group, &elimination), &mut noted)?;
     if numbers.holding + numbers.failing <= n {
         return unlike(alloc, group, &elimination, &mut noted, numbers);
     }
@@ -66,13 +67,25 @@ fn unlike(
     ensures { IfOk result (IsVerdict group.now) }
 {
     let d = elimination.diagrams();
-    let root = elimination.result();
+    let root = root_of(group, elimination);
     let bound = only_bound(d, group, root);
     let values = witness(alloc, d, group, root, noted, numbers.holding < bound)?;
     Ok(Verdict::NotCardinal {
         bound,
         values: assignment_of(alloc, &values)?,
     })
+}
+
+// The node of the result, whose variable is one of the border.
+fn root_of(group: &Group, elimination: &Elimination) -> Node
+    requires { IsEliminationOf group.now elimination.now }
+    ensures value { result ≡ elimination.now.result }
+    ensures node { IsAtBorder group.now elimination.now.table result }
+{
+    let root = elimination.result();
+    let depth = elimination.diagrams().depth(root);
+    prove!(group.aux().len() <= depth);
+    root
 }
 
 // The assignment of these values.

@@ -1,4 +1,5 @@
 ghost use Rattle.std.specs.Prelude.{ℕ, ◌≡◌, ◌≤◌, ◌<◌, ◌+◌, ◌^◌, Bool, true, false, length, map, nat_lt, not, if◌then◌else◌, IfOk};
+ghost use Rattle.kn_logic.specs.Groups.{IsGroup};
 ghost use Rattle.kn_diagram.specs.Diagrams.{function_of};
 ghost use Rattle.kn_verdict.specs.Numbers.{IsAtBorder, AreMeasured, IsWitness, adds, asked_literal, number_of};
 
@@ -58,7 +59,8 @@ fn is_less(lit: Lit, high: Fewest, low: Fewest, want: bool) -> bool
 
 // Values of the border's variables that make none of its literals true where `want`, and else all.
 fn avoiding(alloc: Global, group: &Group, want: bool) -> Result<Vec<bool>, NoMemory>
-    ensures { IfOk result (λ values. values.items ≡ map (λ l. if want then not l.positive else l.positive) group.now.border) }
+    ensures values { IfOk result (λ values. values.items ≡ map (λ l. if want then not l.positive else l.positive) group.now.border) }
+    ensures group { IsGroup group.now }
 {
     let mut values = Vec::with_capacity(alloc, group.border().len())?;
     for lit in group.border() {
