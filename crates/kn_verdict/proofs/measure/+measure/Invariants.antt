@@ -1,0 +1,4 @@
+use Rattle.kn_verdict.proofs.measure.+measure.Given as goal
+
+abbrev pub decreases-measure : goal.decreases-measure
+decreases-measure l = l.node

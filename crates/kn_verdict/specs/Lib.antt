@@ -1,0 +1,3 @@
+pub mod Cardinals
+pub mod Verdicts
+pub mod Numbers

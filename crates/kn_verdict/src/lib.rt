@@ -1,0 +1,19 @@
+//! The verdict on a group of clauses that may hide a count: whether what its clauses say of its border is
+//! "at least so many of these literals", for which bound, or else where it differs. What a count is stands in
+//! `specs/Cardinals.antt`, and what each answer says in `specs/Verdicts.antt`. The clauses are eliminated by
+//! decision diagrams; of each node of the result two numbers are kept, by which a count is told:
+//! `specs/Numbers.antt`.
+#![tactic(auto)]
+
+mod answer;
+mod decide;
+mod fewest;
+mod laws;
+mod measure;
+mod measures;
+mod walk;
+mod witness;
+
+pub use answer::Verdict;
+pub use decide::verdict;
+pub use laws::{a_group_has_one_bound, a_verdict_is_exact};
