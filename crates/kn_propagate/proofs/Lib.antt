@@ -14,5 +14,6 @@ pub mod Empty
 pub mod Founding
 pub mod Looking
 pub mod Advancing
+pub mod Placing
 pub mod Engined
 pub mod Levels

@@ -1,7 +1,7 @@
 -- One element of a list of watched constraints is replaced: what the list is seen as then.
-use Rattle.std.proofs.Common.{◌≡◌, ◌≢◌, ℕ, ◌+◌, ◌≤◌, ◌<◌, Bool, true, false, Option, None, List, [], ◌∷◌, length, map, refl, sym, ap, ◌∙◌, subst, inl, inr, arith}
+use Rattle.std.proofs.Common.{◌≡◌, ◌≢◌, ℕ, ◌+◌, ◌≤◌, ◌<◌, ◌++◌, Bool, true, false, Option, None, List, [], ◌∷◌, length, map, refl, sym, ap, ◌∙◌, subst, inl, inr, arith}
 use Rattle.std.specs.Prelude.{slice_index_or, slice_set}
-use Rattle.std.proofs.lemmas.List.{get_or-map, get_or-set_same, get_or-set_other, map-set, get_or_read}
+use Rattle.std.proofs.lemmas.List.{get_or-map, get_or-set_same, get_or-set_other, map-set, map-append}
 use Rattle.std.proofs.lemmas.Bool.{cases_eq}
 use Rattle.std.proofs.Math.ListN.{length-set}
 use Rattle.std.proofs.Math.Seq.{map-set_same}
@@ -35,6 +35,9 @@ module _ {W : Type 0} (bounded : W → Bounded) (watches : W → ℕ → Bool) w
   -- what a slot is, where the list is seen as this one
   pub slot_is : (xs : List (Slot W)) (i : ℕ) (x : Slot W) (ws : List Watching) → i < length ws → seen_as bounded watches xs ≡ ws → x ≡ slice_index_or xs i x → at_slot ws i ≡ a_watching x.id (bounded x.watch) (watches x.watch)
   slot_is xs i x ws lt e is = ap (λ (z : List Watching). at_slot z i) (sym e) ∙ seen_here xs i x (omega (arith, lt, length-seen xs, ap (λ (z : List Watching). length z) e)) is
+
+  pub seen_push : (xs : List (Slot W)) (y : Slot W) (ys : List (Slot W)) → ys ≡ xs ++ y ∷ [] → seen_as bounded watches ys ≡ seen_as bounded watches xs ++ a_watching y.id (bounded y.watch) (watches y.watch) ∷ []
+  seen_push xs y ys is = ap (seen_as bounded watches) is ∙ map-append seen xs (y ∷ [])
 
   pub seen_set : (xs : List (Slot W)) (i : ℕ) (y : Slot W) → seen_as bounded watches (slice_set xs i y) ≡ slice_set (seen_as bounded watches xs) i (seen y)
   seen_set xs i y = map-set seen xs i y

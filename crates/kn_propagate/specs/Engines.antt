@@ -1,5 +1,5 @@
 -- An engine as its callers see it, and what its type keeps.
-use Rattle.std.specs.Prelude.{ℕ, ◌≡◌, ◌≤◌, ◌<◌, ◌+◌, ◌-◌, ◌==◌, if◌then◌else◌, List, [], ◌∷◌, length, map, take, slice_get, Option, Some, None}
+use Rattle.std.specs.Prelude.{ℕ, ◌≡◌, ◌≤◌, ◌<◌, ◌+◌, ◌-◌, ◌==◌, if◌then◌else◌, List, [], ◌∷◌, ◌++◌, length, map, take, slice_get, Option, Some, None}
 use Rattle.std.specs.List.{AllByRecursion}
 use Rattle.kn_logic.specs.Literals.{AreKnown, AreDifferent}
 use Rattle.kn_logic.specs.Constraints.{Bounded, IsWithin}
@@ -27,6 +27,10 @@ constraints live = map (λ l. l.constraint) live
 abbrev pub live_in : List Live → ℕ → Option Bounded
 live_in [] id = None
 live_in (l ∷ live) id = if l.id == id then Some l.constraint else live_in live id
+
+-- the live constraints with one more, somewhere among them
+abbrev pub IsAdded : List Live → ℕ → Bounded → List Live → Type 0
+IsAdded live id c new = (front : List Live) × (back : List Live) × (live ≡ front ++ back) × (new ≡ front ++ record { id = id; constraint = c } ∷ back)
 
 -- no id stands there twice
 abbrev pub AreApart : List Live → Type 0

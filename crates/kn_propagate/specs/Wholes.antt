@@ -1,5 +1,5 @@
 -- What an engine keeps of its tables, slot by slot.
-use Rattle.std.specs.Prelude.{ℕ, ◌≡◌, ◌≤◌, ◌<◌, ◌+◌, ◌*◌, ◌^◌, ◌⊎◌, true, List, [], ◌∷◌, length, take, slice_get, Option, Some, None}
+use Rattle.std.specs.Prelude.{ℕ, ◌≡◌, ◌≤◌, ◌<◌, ◌+◌, ◌*◌, ◌^◌, ◌++◌, ◌⊎◌, true, List, [], ◌∷◌, length, take, slice_get, Option, Some, None}
 use Rattle.kn_logic.specs.Constraints.{Bounded}
 use Rattle.kn_logic.specs.Literals.{Literal}
 use Rattle.kn_logic.specs.Propagation.{IsShort, open_places}
@@ -81,3 +81,7 @@ pub record IsWhole (t : Trailed) (ws : List Watching) (chains : Chained) (visite
   pub tabled : IsTabled t ws chains visited pending
   pub index : IsIndex ws find
   pub says : Says t ws visited last
+
+-- one constraint more, in a slot behind all others
+abbrev pub HasNew : List Watching → List Watching → ℕ → Bounded → Type 0
+HasNew ws new id c = (w : Watching) × (new ≡ ws ++ w ∷ []) × (w.id ≡ Some id) × (w.c ≡ c)

@@ -1,16 +1,17 @@
 //! The engine: live constraints of two kinds over one trail.
-ghost use Rattle.std.specs.Prelude.{◌≡◌, ◌≤◌, ◌<◌, ◌+◌, ◌-◌, ◌*◌, ◌^◌, ◌++◌, ◌∷◌, Some, None, [], false, length, IfOk, IfSome, IfNone, option_map, ℕ};
+ghost use Rattle.std.specs.Prelude.{◌≡◌, ◌≤◌, ◌<◌, ◌+◌, ◌-◌, ◌*◌, ◌^◌, ◌++◌, ◌∷◌, Some, None, [], false, length, IfOk, OnOk, OnErr, IfSome, IfNone, option_map, ℕ};
 ghost use Rattle.kn_logic.specs.Literals.{IsKnown, names};
-ghost use Rattle.kn_logic.specs.Constraints.{Bounded};
-ghost use Rattle.kn_logic.specs.Propagation.{IsClosed};
+ghost use Rattle.kn_logic.specs.Constraints.{Bounded, IsWithin};
+ghost use Rattle.kn_logic.specs.Propagation.{IsClosed, IsShort};
 ghost use Rattle.kn_watch.specs.Trails.{literals, below};
 ghost use Rattle.kn_watch.specs.Watches.{listed, IsConflicting};
 ghost use Rattle.kn_propagate.specs.declared.step.Step.TheVariants.{Closed, Conflict};
-ghost use Rattle.kn_propagate.specs.Engines.{constraints, live_in, HasReasonAt, IsConflict, closed_only, IsEngine};
-ghost use Rattle.kn_propagate.specs.Chains.{seen_as, at_slot, AreSame, IsGrown, AreReasoned};
+ghost use Rattle.kn_propagate.specs.Engines.{constraints, live_in, IsAdded, HasReasonAt, IsConflict, closed_only, IsEngine};
+ghost use Rattle.kn_propagate.specs.Chains.{seen_as, at_slot, held_bounded, AreSame, IsGrown, AreReasoned};
 ghost use Rattle.kn_propagate.specs.Wholes.{IsQuiet, IsTabled};
 
 use crate::chains::Chains;
+use crate::inserting::insert;
 use crate::settling::settle;
 use crate::slot::{Held, Slot};
 use crate::walking::propagate;
@@ -95,6 +96,36 @@ impl<C: Watched, K: Watched> Engine<C, K> {
         }
     }
 
+    /// Adds a clause under a new id. The trail stays as it is; the next propagation looks at the clause, where
+    /// it forces a literal or is in conflict. An error where memory is wanting: the engine is as before then,
+    /// and the clause is given up.
+    pub fn add_clause(&mut self, c: C, id: u64) -> Result<(), NoMemory>
+        requires fresh { live_in self.old.live id ≡ None }
+        requires within { IsWithin self.old.trail.vars (C.bounded c) }
+        requires waits { (k : ℕ) → k < self.old.trail.level → IsShort (literals (below (k + 1) self.old.trail.made)) (C.bounded c) → ⊥ }
+        ensures trail { OnOk result (self.new.trail ≡ self.old.trail) }
+        ensures live { OnOk result (IsAdded self.old.live id (C.bounded c) self.new.live) }
+        ensures last { OnOk result (self.new.last ≡ None) }
+        ensures err { OnErr result (self.new ≡ self.old) }
+        ensures kept { IsEngine self.new }
+    {
+        self.add(Held::Clause(c), id)
+    }
+
+    /// Adds a constraint of the other kind under a new id, as `add_clause` does.
+    pub fn add_klause(&mut self, k: K, id: u64) -> Result<(), NoMemory>
+        requires fresh { live_in self.old.live id ≡ None }
+        requires within { IsWithin self.old.trail.vars (K.bounded k) }
+        requires waits { (n : ℕ) → n < self.old.trail.level → IsShort (literals (below (n + 1) self.old.trail.made)) (K.bounded k) → ⊥ }
+        ensures trail { OnOk result (self.new.trail ≡ self.old.trail) }
+        ensures live { OnOk result (IsAdded self.old.live id (K.bounded k) self.new.live) }
+        ensures last { OnOk result (self.new.last ≡ None) }
+        ensures err { OnErr result (self.new ≡ self.old) }
+        ensures kept { IsEngine self.new }
+    {
+        self.add(Held::Klause(k), id)
+    }
+
     /// Makes a literal without a value true, at a new level. The last step is `Closed`.
     pub fn assume(&mut self, lit: Lit)
         requires known { IsKnown self.old.trail.vars lit }
@@ -155,6 +186,34 @@ impl<C: Watched, K: Watched> Engine<C, K> {
                 Step::Closed
             }
         }
+    }
+
+    // adds a constraint of one of the kinds
+    fn add(&mut self, watch: Held<C, K>, id: u64) -> Result<(), NoMemory>
+        requires fresh { live_in self.old.live id ≡ None }
+        requires within { IsWithin self.old.trail.vars (held_bounded C.bounded K.bounded watch) }
+        requires waits { (k : ℕ) → k < self.old.trail.level → IsShort (literals (below (k + 1) self.old.trail.made)) (held_bounded C.bounded K.bounded watch) → ⊥ }
+        ensures trail { OnOk result (self.new.trail ≡ self.old.trail) }
+        ensures live { OnOk result (IsAdded self.old.live id (held_bounded C.bounded K.bounded watch) self.new.live) }
+        ensures last { OnOk result (self.new.last ≡ None) }
+        ensures err { OnErr result (self.new ≡ self.old) }
+        ensures kept { IsEngine self.new }
+    {
+        self.chains.reserve(watch.lits().len())?;
+        self.slots.reserve(1)?;
+        self.pending.reserve(1)?;
+        self.index.insert(id, self.slots.len())?;
+        insert(
+            &mut self.slots,
+            &mut self.chains,
+            &mut self.pending,
+            &self.trail,
+            self.visited,
+            id,
+            watch,
+        );
+        self.last = None;
+        Ok(())
     }
 }
 

@@ -5,6 +5,7 @@
 mod attaching;
 mod chains;
 mod engine;
+mod inserting;
 mod settling;
 mod slot;
 mod step;
