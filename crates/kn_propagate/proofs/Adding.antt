@@ -128,7 +128,7 @@ linked_gains ws new spots count hand from chain e s l g eh loose kh hc codes =
 
 -- The entry that was not used before stands in front of the chain of the literal.
 pub still_gains : (vars : ℕ) (ws new : List Watching) (c d : Chained) (e k : ℕ) (s : Spot) → IsStill ws c → Gains ws new s → length ws ≤ nobody → (spot_at c.spots e).owner ≡ nobody → e < length c.spots → length c.heads ≡ 2 * vars + 3 → AreWithin vars ws → k ≡ code (lit_of_spot ws s)
-  → d.nexts ≡ slice_set c.nexts e (slice_index_or c.heads k 0) → d.heads ≡ slice_set c.heads k (e + 1) → d.spots ≡ slice_set c.spots e s → IsStill new d
+    → d.nexts ≡ slice_set c.nexts e (slice_index_or c.heads k 0) → d.heads ≡ slice_set c.heads k (e + 1) → d.spots ≡ slice_set c.spots e s → IsStill new d
 still_gains vars ws new c d e k s w g few free eh sized within kq nq hq sq =
     let hand = hand_of c.heads in
     let kh : code (lit_of_spot ws s) < hand = code_known vars c.heads (lit_of_spot ws s) (listed_known vars (at_slot ws s.owner).c s.place (within s.owner g.owned) g.within) sized in
@@ -140,11 +140,11 @@ still_gains vars ws new c d e k s w g few free eh sized within kq nq hq sq =
     let chain = with_chain w.chain k (e ∷ w.chain k) in
     let laid = lay c.nexts c.heads w.chain w.home k e w.wired.chains (omega (arith, kh2)) en loose in
     let chains : AreChains d.nexts d.heads chain (with_home w.home e k) =
-      subst (λ (x : List ℕ). AreChains x d.heads chain (with_home w.home e k)) (sym nq) (subst (λ (x : List ℕ). AreChains (slice_set c.nexts e (slice_index_or c.heads k 0)) x chain (with_home w.home e k)) (sym hq) laid) in
+    subst (λ (x : List ℕ). AreChains x d.heads chain (with_home w.home e k)) (sym nq) (subst (λ (x : List ℕ). AreChains (slice_set c.nexts e (slice_index_or c.heads k 0)) x chain (with_home w.home e k)) (sym hq) laid) in
     let joined = linked_gains ws new c.spots (length c.heads) hand w.from w.chain e s w.wired.linked g eh loose (λ q. omega (arith, q, kh)) (omega (arith, kh)) codes in
     let here : AreLinked new (slice_set c.spots e s) (length c.heads) hand w.from chain = subst (λ (n : ℕ). AreLinked new (slice_set c.spots e s) (length c.heads) hand w.from (with_chain w.chain n (e ∷ w.chain n))) (sym kq) joined in
     let there : AreLinked new d.spots (length d.heads) (hand_of d.heads) w.from chain =
-      subst (λ (x : List Spot). AreLinked new x (length d.heads) (hand_of d.heads) w.from chain) (sym sq) (subst (λ (n : ℕ). AreLinked new (slice_set c.spots e s) n (n - 1) w.from chain) (sym long) here) in
+    subst (λ (x : List Spot). AreLinked new x (length d.heads) (hand_of d.heads) w.from chain) (sym sq) (subst (λ (n : ℕ). AreLinked new (slice_set c.spots e s) n (n - 1) w.from chain) (sym long) here) in
     record {
       from = w.from;
       chain = chain;
@@ -170,9 +170,9 @@ codes_of vars ws heads sized within slot place sl pl = (let x = code_known vars 
 -- the same watched places, with the same literals
 pub record Agrees (ws new : List Watching) : Type 0 where
   pub to : (slot place : ℕ) → slot < length ws → place < length (listed (at_slot ws slot).c) → (at_slot ws slot).watches place ≡ true →
-    (slot < length new) × (place < length (listed (at_slot new slot).c)) × ((at_slot new slot).watches place ≡ true) × (lit_at (listed (at_slot new slot).c) place ≡ lit_at (listed (at_slot ws slot).c) place)
+      (slot < length new) × (place < length (listed (at_slot new slot).c)) × ((at_slot new slot).watches place ≡ true) × (lit_at (listed (at_slot new slot).c) place ≡ lit_at (listed (at_slot ws slot).c) place)
   pub back : (slot place : ℕ) → slot < length new → place < length (listed (at_slot new slot).c) → (at_slot new slot).watches place ≡ true →
-    (slot < length ws) × (place < length (listed (at_slot ws slot).c)) × ((at_slot ws slot).watches place ≡ true)
+      (slot < length ws) × (place < length (listed (at_slot ws slot).c)) × ((at_slot ws slot).watches place ≡ true)
 
 pub still_agrees : (ws new : List Watching) (c : Chained) → Agrees ws new → IsStill ws c → IsStill new c
 still_agrees ws new c a w =
@@ -192,13 +192,16 @@ still_agrees ws new c a w =
           coded = λ k e kc i. ap code (at k e kc i).3 ∙ l.coded k e kc i;
           apart = l.apart;
           all = λ slot place sl pl wa. (
-            let b = a.back slot place sl pl wa in
-            let t = a.to slot place b.0 b.1 b.2 in
-            let o = l.all slot place b.0 b.1 b.2 in
-            (o.0, o.1, elim (o.2) [
-              | inl i ↦ inl (subst (λ (n : ℕ). is_in o.0 (w.chain n) ≡ true) (ap code (sym t.3)) i)
-              | inr i ↦ inr (ap code t.3 ∙ i.0, i.1)
-            ]));
+              let b = a.back slot place sl pl wa in
+              let t = a.to slot place b.0 b.1 b.2 in
+              let o = l.all slot place b.0 b.1 b.2 in (
+                o.0,
+                o.1,
+                elim (o.2) [
+                  | inl i ↦ inl (subst (λ (n : ℕ). is_in o.0 (w.chain n) ≡ true) (ap code (sym t.3)) i)
+                  | inr i ↦ inr (ap code t.3 ∙ i.0, i.1)
+                ],
+              ));
         };
         long = w.wired.long;
         some = w.wired.some;
@@ -213,7 +216,7 @@ still_unused vars ws c d e sized within u w =
     let long : length d.heads ≡ length c.heads = ap (λ (x : List ℕ). length x) u.heads in
     let same : (k x : ℕ) → k < length c.heads → is_in x (w.chain k) ≡ true → spot_at d.spots x ≡ spot_at c.spots x = λ k x kc i. u.spots x (l.numbered k x kc i) in
     let spelled : (k : ℕ) → k < length c.heads → IsChain d.nexts (slice_index_or c.heads k 0) (w.chain k) = λ k kc.
-      chain_moves c.nexts d.nexts (slice_index_or c.heads k 0) (w.chain k) (λ x i. (omega (arith, l.numbered k x kc i, u.long, u.even), u.nexts x (l.numbered k x kc i))) (w.wired.chains.spelled k kc) in
+    chain_moves c.nexts d.nexts (slice_index_or c.heads k 0) (w.chain k) (λ x i. (omega (arith, l.numbered k x kc i, u.long, u.even), u.nexts x (l.numbered k x kc i))) (w.wired.chains.spelled k kc) in
     let linked : AreLinked ws d.spots (length c.heads) (hand_of c.heads) w.from w.chain = record {
       numbered = λ k x kc i. omega (arith, l.numbered k x kc i, u.long);
       owned = λ k x kc i. subst (λ (z : Spot). z.owner < length ws) (sym (same k x kc i)) (l.owned k x kc i);
@@ -222,12 +225,12 @@ still_unused vars ws c d e sized within u w =
       coded = λ k x kc i. ap (λ (z : Spot). code (lit_of_spot ws z)) (same k x kc i) ∙ l.coded k x kc i;
       apart = λ j k x y jc kc i m q. l.apart j k x y jc kc i m (sym (same j x jc i) ∙ q ∙ same k y kc m);
       all = λ slot place sl pl wa. (
-        let o = l.all slot place sl pl wa in
-        let x : o.0 < length c.spots = elim (o.2) [
-          | inl i ↦ l.numbered (code (lit_at (listed (at_slot ws slot).c) place)) o.0 (codes_of vars ws c.heads sized within slot place sl pl) i
-          | inr i ↦ l.numbered (hand_of c.heads) o.0 (omega (arith, w.wired.some)) i.1
-        ] in
-        (o.0, u.spots o.0 x ∙ o.1, o.2));
+          let o = l.all slot place sl pl wa in
+          let x : o.0 < length c.spots = elim (o.2) [
+            | inl i ↦ l.numbered (code (lit_at (listed (at_slot ws slot).c) place)) o.0 (codes_of vars ws c.heads sized within slot place sl pl) i
+            | inr i ↦ l.numbered (hand_of c.heads) o.0 (omega (arith, w.wired.some)) i.1
+          ] in
+          (o.0, u.spots o.0 x ∙ o.1, o.2));
     } in
     record {
       from = w.from;
@@ -247,10 +250,11 @@ still_unused vars ws c d e sized within u w =
 
 -- the entry stands in front of its chain: the others that are not used stay so
 pub spare_laid : (c d : Chained) (e k : ℕ) (s : Spot) → ((free : List ℕ) × IsChain c.nexts c.spare free × ((x : ℕ) → is_in x free ≡ true → (spot_at c.spots x).owner ≡ nobody) × (is_in e free ≡ false)) → d.nexts ≡ slice_set c.nexts e k → d.spots ≡ slice_set c.spots e s → d.spare ≡ c.spare → AreSpare d
-spare_laid c d e k s f nq sq pq =
-    (f.0,
-     subst (λ (x : List ℕ). IsChain x d.spare f.0) (sym nq) (subst (λ (n : ℕ). IsChain (slice_set c.nexts e k) n f.0) (sym pq) (chain_kept c.nexts c.spare e k f.0 f.1 f.3)),
-     λ x i. ap (λ (z : List Spot). (spot_at z x).owner) sq ∙ ap (λ (z : Spot). z.owner) (spot_other c.spots e x s (not_in x e f.0 i f.3)) ∙ f.2 x i)
+spare_laid c d e k s f nq sq pq = (
+  f.0,
+  subst (λ (x : List ℕ). IsChain x d.spare f.0) (sym nq) (subst (λ (n : ℕ). IsChain (slice_set c.nexts e k) n f.0) (sym pq) (chain_kept c.nexts c.spare e k f.0 f.1 f.3)),
+  λ x i. ap (λ (z : List Spot). (spot_at z x).owner) sq ∙ ap (λ (z : Spot). z.owner) (spot_other c.spots e x s (not_in x e f.0 i f.3)) ∙ f.2 x i,
+)
 
 drawn_parts : (c d : Chained) (e : ℕ) (free : List ℕ) → IsChain c.nexts c.spare free → ((x : ℕ) → is_in x free ≡ true → (spot_at c.spots x).owner ≡ nobody) → c.spare ≡ e + 1 → length c.nexts ≡ length c.spots → d.spots ≡ c.spots → d.nexts ≡ c.nexts → d.heads ≡ c.heads → d.room ≡ c.room → d.spare ≡ slice_index_or c.nexts e 0 → IsUnused c d e
 drawn_parts c d e [] chain owners q even sq nq hq rq pq = absurd (omega (arith, chain, q))
@@ -358,7 +362,7 @@ agrees_at ws new slot long same others at =
 
 pub cut_skips : (ws : List Watching) (slot k : ℕ) → slot < length ws → (at_slot ws slot).watches k ≡ false → Agrees (cut ws slot k) (cut ws slot (k + 1))
 cut_skips ws slot k lt w = agrees_at (cut ws slot k) (cut ws slot (k + 1)) slot (length-cut ws slot (k + 1) ∙ sym (length-cut ws slot k)) (λ x. c_cut ws slot (k + 1) x lt ∙ sym (c_cut ws slot k x lt)) (λ x d. off_cut ws slot (k + 1) x d ∙ sym (off_cut ws slot k x d))
-  (λ p pl. ap (λ (x : Watching). x.watches p) (at_cut ws slot (k + 1) lt) ∙ elim (cases_eq p k) [
+    (λ p pl. ap (λ (x : Watching). x.watches p) (at_cut ws slot (k + 1) lt) ∙ elim (cases_eq p k) [
       | inr d ↦ more_lt ((at_slot ws slot).watches p) p k d
       | inl e ↦ (let f : (at_slot ws slot).watches p ≡ false = ap (at_slot ws slot).watches e ∙ w in ap (λ (t : Bool). t && nat_lt p (k + 1)) f ∙ sym (ap (λ (t : Bool). t && nat_lt p k) f))
     ] ∙ sym (ap (λ (x : Watching). x.watches p) (at_cut ws slot k lt)))
@@ -369,7 +373,7 @@ and_yes false = refl
 
 pub cut_whole : (ws : List Watching) (slot k : ℕ) → slot < length ws → k ≡ length (listed (at_slot ws slot).c) → Agrees (cut ws slot k) ws
 cut_whole ws slot k lt e = agrees_at (cut ws slot k) ws slot (sym (length-cut ws slot k)) (λ x. sym (c_cut ws slot k x lt)) (λ x d. sym (off_cut ws slot k x d))
-  (λ p pl. (
+    (λ p pl. (
     let pl2 = subst (λ (c : Bounded). p < length (listed c)) (c_cut ws slot k slot lt) pl in
     sym (ap (λ (x : Watching). x.watches p) (at_cut ws slot k lt) ∙ ap (λ (t : Bool). (at_slot ws slot).watches p && t) (lt-ltb p k (omega (arith, pl2, e))) ∙ and_yes _)))
 
@@ -379,8 +383,8 @@ cut_first ws new slot a b others =
     let off = λ (x : ℕ) (xl : x < slot). off_cut new slot 0 x (λ q. omega (arith, q, xl)) ∙ others x xl in
     record {
       to = λ x p xl pl w. (
-        let s = off x (omega (arith, xl, a)) in
-        (omega (arith, xl, a, b, length-cut new slot 0), subst (λ (z : Watching). p < length (listed z.c)) (sym s) pl, ap (λ (z : Watching). z.watches p) s ∙ w, ap (λ (z : Watching). lit_at (listed z.c) p) s));
+          let s = off x (omega (arith, xl, a)) in
+          (omega (arith, xl, a, b, length-cut new slot 0), subst (λ (z : Watching). p < length (listed z.c)) (sym s) pl, ap (λ (z : Watching). z.watches p) s ∙ w, ap (λ (z : Watching). lit_at (listed z.c) p) s));
       back = λ x p xl pl w. elim (cases_lt x slot) [
         | inl lt ↦ (let s = off x lt in (omega (arith, lt, a), subst (λ (z : Watching). p < length (listed z.c)) s pl, sym (ap (λ (z : Watching). z.watches p) s) ∙ w))
         | inr ge ↦ (

@@ -36,17 +36,17 @@ guarded_grown : (t u : Trailed) (pending : List ℕ) (slot : ℕ) (w : Watching)
 guarded_grown t u pending slot w g h = elim h [
   | inl b ↦ inl b
   | inr h ↦ elim h [
-      | inl s ↦ inr (inl (satisfied_within (literals (below 1 t.made)) (literals (below 1 u.made)) w.c (within_grown t.level 1 t.made u.made g.grows) s))
-      | inr z ↦ inr (inr (g.level ∙ z.0, z.1))
-    ]
+    | inl s ↦ inr (inl (satisfied_within (literals (below 1 t.made)) (literals (below 1 u.made)) w.c (within_grown t.level 1 t.made u.made g.grows) s))
+    | inr z ↦ inr (inr (g.level ∙ z.0, z.1))
+  ]
 ]
 
 pub lower_grown : (t u : Trailed) (ws new : List Watching) → IsGrown t u → AreSame ws new → ((k : ℕ) → k < t.level → IsQuiet (literals (below (k + 1) t.made)) ws) → (k : ℕ) → k < u.level → IsQuiet (literals (below (k + 1) u.made)) new
 lower_grown t u ws new g s h k kl slot sl short =
     let kl2 : k < t.level = omega (arith, kl, g.level) in
     h k kl2 slot (omega (arith, sl, s.long))
-      (subst (λ (x : List Made). IsShort (literals x) (at_slot ws slot).c) (below_grown t.level (k + 1) t.made u.made g.grows (omega (arith, kl2)))
-        (subst (IsShort (literals (below (k + 1) u.made))) (s.same slot) short))
+    (subst (λ (x : List Made). IsShort (literals x) (at_slot ws slot).c) (below_grown t.level (k + 1) t.made u.made g.grows (omega (arith, kl2)))
+    (subst (IsShort (literals (below (k + 1) u.made))) (s.same slot) short))
 
 pub same_self : (ws : List Watching) → AreSame ws ws
 same_self ws = record { long = refl; same = λ slot. refl; ids = λ slot. refl }
@@ -98,22 +98,22 @@ tabled_settled t u ws chains visited pending w g r s =
       rest = λ slot lt. elim (n.rest slot lt) [
         | inl a ↦ inl a
         | inr p ↦ elim (w.rest slot lt) [
-            | inl a ↦ inl (rest_grown t u visited (at_slot ws slot) g w.visited_ a)
-            | inr q ↦ inl (inl (settled_now u.level u.made (at_slot ws slot).c (at_slot ws slot).watches top (s slot q.0 q.2) p.1))
-          ]
+          | inl a ↦ inl (rest_grown t u visited (at_slot ws slot) g w.visited_ a)
+          | inr q ↦ inl (inl (settled_now u.level u.made (at_slot ws slot).c (at_slot ws slot).watches top (s slot q.0 q.2) p.1))
+        ]
       ];
       narrow = λ slot lt. elim (n.narrow slot lt) [
         | inl b ↦ inl b
         | inr h ↦ elim h [
-            | inl a ↦ inr (inl a)
-            | inr z ↦ elim (cases_lt (at_slot ws slot).c.bound (length (listed (at_slot ws slot).c))) [
-                | inl b ↦ inl b
-                | inr ge ↦ (
-                    let sat = s slot z.1 (omega (arith, ge, open_most (literals t.made) (listed (at_slot ws slot).c))) in
-                    let all : below 1 u.made ≡ u.made = ap (λ (k : ℕ). below (k + 1) u.made) (sym z.0) ∙ below_top u.level u.made top in
-                    inr (inl (subst (λ (x : List Made). IsSatisfied (literals x) (at_slot ws slot).c) (sym all) sat)))
-              ]
+          | inl a ↦ inr (inl a)
+          | inr z ↦ elim (cases_lt (at_slot ws slot).c.bound (length (listed (at_slot ws slot).c))) [
+            | inl b ↦ inl b
+            | inr ge ↦ (
+                let sat = s slot z.1 (omega (arith, ge, open_most (literals t.made) (listed (at_slot ws slot).c))) in
+                let all : below 1 u.made ≡ u.made = ap (λ (k : ℕ). below (k + 1) u.made) (sym z.0) ∙ below_top u.level u.made top in
+                inr (inl (subst (λ (x : List Made). IsSatisfied (literals x) (at_slot ws slot).c) (sym all) sat)))
           ]
+        ]
       ];
       due = λ slot i. absurd cc;
       lower = n.lower;
@@ -136,17 +136,20 @@ idle_of t ws chains visited w = record {
 
 chain_spared : (nexts more : List ℕ) (head : ℕ) (free : List ℕ) → length more ≡ length nexts → ((e : ℕ) → is_in e free ≡ true → slice_index_or more e 0 ≡ slice_index_or nexts e 0) → IsChain nexts head free → IsChain more head free
 chain_spared nexts more head [] l h c = c
-chain_spared nexts more head (e ∷ free) l h c =
-    (c.0, omega (arith, c.1, l),
-     subst (λ (n : ℕ). IsChain more n free) (sym (h e (or_left (eqb e e) (is_in e free) (eq-eqb e e refl))))
-       (chain_spared nexts more (slice_index_or nexts e 0) free l (λ x i. h x (or_right (eqb e x) (is_in x free) i)) c.2))
+chain_spared nexts more head (e ∷ free) l h c = (
+  c.0,
+  omega (arith, c.1, l),
+  subst (λ (n : ℕ). IsChain more n free) (sym (h e (or_left (eqb e e) (is_in e free) (eq-eqb e e refl))))
+      (chain_spared nexts more (slice_index_or nexts e 0) free l (λ x i. h x (or_right (eqb e x) (is_in x free) i)) c.2),
+)
 
 pub spare_kept : (count : ℕ) (old new : Chained) → count ≤ nobody → length old.nexts ≡ length old.spots → length new.nexts ≡ length new.spots → AreSpared count old new → AreSpare old → AreSpare new
 spare_kept count old new le a b s f =
-    let same : (e : ℕ) → is_in e f.0 ≡ true → (spot_at new.spots e ≡ spot_at old.spots e) × (slice_index_or new.nexts e 0 ≡ slice_index_or old.nexts e 0) = λ e i. s.rest e (omega (arith, le, f.2 e i)) in
-    (f.0,
-     subst (λ (n : ℕ). IsChain new.nexts n f.0) (sym s.head) (chain_spared old.nexts new.nexts old.spare f.0 (omega (arith, a, b, s.long)) (λ e i. (same e i).1) f.1),
-     λ e i. ap (λ (z : Spot). z.owner) (same e i).0 ∙ f.2 e i)
+    let same : (e : ℕ) → is_in e f.0 ≡ true → (spot_at new.spots e ≡ spot_at old.spots e) × (slice_index_or new.nexts e 0 ≡ slice_index_or old.nexts e 0) = λ e i. s.rest e (omega (arith, le, f.2 e i)) in (
+      f.0,
+      subst (λ (n : ℕ). IsChain new.nexts n f.0) (sym s.head) (chain_spared old.nexts new.nexts old.spare f.0 (omega (arith, a, b, s.long)) (λ e i. (same e i).1) f.1),
+      λ e i. ap (λ (z : Spot). z.owner) (same e i).0 ∙ f.2 e i,
+    )
 
 founded_same : (ws new : List Watching) (made : List Made) → AreSame ws new → AreFounded ws made → AreFounded new made
 founded_same ws new made s f place m e =
@@ -171,14 +174,14 @@ tabled_walked t u ws new chains more visited now w sized kept s g r spared le fr
   spare = spare_kept (length ws) chains more w.few w.still.wired.long idle.stopped.wired.long spared w.spare;
   rest = λ slot lt. inl (idle.stopped.rest slot lt);
   narrow = λ slot lt. (
-    let h = guarded_grown t u [] slot (at_slot ws slot) g (w.narrow slot (omega (arith, lt, s.long))) in
-    elim h [
-      | inl b ↦ inl (subst IsBroad (sym (s.same slot)) b)
-      | inr h ↦ elim h [
+      let h = guarded_grown t u [] slot (at_slot ws slot) g (w.narrow slot (omega (arith, lt, s.long))) in
+      elim h [
+        | inl b ↦ inl (subst IsBroad (sym (s.same slot)) b)
+        | inr h ↦ elim h [
           | inl a ↦ inr (inl (subst (IsSatisfied (literals (below 1 u.made))) (sym (s.same slot)) a))
           | inr z ↦ (let i = z.1 in absurd cc)
         ]
-    ]);
+      ]);
   due = λ slot i. absurd cc;
   lower = lower_grown t u ws new g s w.lower;
 }
@@ -195,11 +198,11 @@ quiet_all t ws chains visited w le slot lt short =
     let k = consistent_of t w.fresh.trail in
     elim (w.narrow slot lt) [
       | inl broad ↦ elim (w.rest slot lt) [
-          | inl a ↦ rest_quiet t.made (at_slot ws slot) k broad (w.kept slot lt).has (subst (λ (x : List Literal). IsAtRest t.made x (at_slot ws slot)) (take_whole (literals t.made) visited (omega (arith, le, length-literals t.made))) a) short
-          | inr p ↦ none_due t slot (at_slot ws slot) p
-        ]
+        | inl a ↦ rest_quiet t.made (at_slot ws slot) k broad (w.kept slot lt).has (subst (λ (x : List Literal). IsAtRest t.made x (at_slot ws slot)) (take_whole (literals t.made) visited (omega (arith, le, length-literals t.made))) a) short
+        | inr p ↦ none_due t slot (at_slot ws slot) p
+      ]
       | inr h ↦ elim h [
-          | inl a ↦ satisfied_quiet (literals t.made) (at_slot ws slot).c k (satisfied_within (literals (below 1 t.made)) (literals t.made) (at_slot ws slot).c (below_all t.made 1) a) short
-          | inr z ↦ (let i = z.1 in absurd cc)
-        ]
+        | inl a ↦ satisfied_quiet (literals t.made) (at_slot ws slot).c k (satisfied_within (literals (below 1 t.made)) (literals t.made) (at_slot ws slot).c (below_all t.made 1) a) short
+        | inr z ↦ (let i = z.1 in absurd cc)
+      ]
     ]

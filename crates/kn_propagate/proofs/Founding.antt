@@ -23,7 +23,8 @@ entered_more ws made more place m lt (inr a) = inr (
   elim (a.1) [
     | inl z ↦ inl z
     | inr f ↦ inr (f.0, f.1, f.2, get_front made more f.0 (omega (arith, f.2, lt)) ∙ f.3, f.4)
-  ])
+  ],
+)
 
 entered_less : (ws : List Watching) (made more : List Made) (place : ℕ) (m : Made) → place < length made → IsEntered ws (made ++ more) place m → IsEntered ws made place m
 entered_less ws made more place m lt (inl a) = inl (a.0, a.1, λ q n ql e. a.2 q n ql (get_front made more q (omega (arith, ql, lt)) ∙ e))
@@ -32,7 +33,8 @@ entered_less ws made more place m lt (inr a) = inr (
   elim (a.1) [
     | inl z ↦ inl z
     | inr f ↦ inr (f.0, f.1, f.2, sym (get_front made more f.0 (omega (arith, f.2, lt))) ∙ f.3, f.4)
-  ])
+  ],
+)
 
 level_of : (level : ℕ) (more : List Made) (place : ℕ) (m : Made) → AllByRecursion (λ x. x.level ≡ level) more → slice_get more place ≡ Some m → m.level ≡ level
 level_of level [] place m a e = absurd cc
@@ -52,13 +54,16 @@ founded_grows ws t u g r b f place m e =
       | inl lt ↦ subst (λ (x : List Made). IsEntered ws x place m) (sym is) (entered_more ws t.made g.grows.0 place m lt (f place m (sym (get_front t.made g.grows.0 place lt) ∙ e2)))
       | inr ge ↦ (
           let level = level_added t.level t.made g.grows.0 place m g.grows.2 ge e2 in
-          inr (r place m ge e, elim (cases_lt 0 t.level) [
-            | inr z ↦ inl (omega (arith, level, z))
-            | inl above ↦ (
-                let h = b t.level (omega (arith, above)) (omega arith) in
-                let lt = slice_get_within t.made h.0 h.1 h.2 in
-                inr (h.0, h.1, omega (arith, lt, ge), ap (λ (x : List Made). slice_get x h.0) is ∙ get_front t.made g.grows.0 h.0 lt ∙ h.2, h.3 ∙ sym level))
-          ]))
+          inr (
+            r place m ge e,
+            elim (cases_lt 0 t.level) [
+              | inr z ↦ inl (omega (arith, level, z))
+              | inl above ↦ (
+                  let h = b t.level (omega (arith, above)) (omega arith) in
+                  let lt = slice_get_within t.made h.0 h.1 h.2 in
+                  inr (h.0, h.1, omega (arith, lt, ge), ap (λ (x : List Made). slice_get x h.0) is ∙ get_front t.made g.grows.0 h.0 lt ∙ h.2, h.3 ∙ sym level))
+            ],
+          ))
     ]
 
 pub begun_grows : (t u : Trailed) → IsGrown t u → AreBegun t → AreBegun u
@@ -100,10 +105,14 @@ founded_assume ws t m k r level f place n e = elim (cases_lt place (length t.mad
   | inl lt ↦ entered_more ws t.made (m ∷ []) place n lt (f place n (sym (get_front t.made (m ∷ []) place lt) ∙ e))
   | inr ge ↦ (
       let l = get_last t.made m n place ge e in
-      inl (ap (λ (x : Made). x.reason) l.1 ∙ r, omega (arith, ap (λ (x : Made). x.level) l.1, level), λ q x ql g. (
-        let ql2 : q < length t.made = omega (arith, ql, l.0) in
-        let high = level_at t.level t.made q x k.rising (sym (get_front t.made (m ∷ []) q ql2) ∙ g) in
-        omega (arith, high, ap (λ (z : Made). z.level) l.1, level))))
+      inl (
+        ap (λ (x : Made). x.reason) l.1 ∙ r,
+        omega (arith, ap (λ (x : Made). x.level) l.1, level),
+        λ q x ql g. (
+            let ql2 : q < length t.made = omega (arith, ql, l.0) in
+            let high = level_at t.level t.made q x k.rising (sym (get_front t.made (m ∷ []) q ql2) ∙ g) in
+            omega (arith, high, ap (λ (z : Made). z.level) l.1, level)),
+      ))
 ]
 
 pub begun_assume : (t v : Trailed) (m : Made) → v.level ≡ t.level + 1 → v.made ≡ t.made ++ m ∷ [] → m.level ≡ t.level + 1 → AreBegun t → AreBegun v
@@ -119,11 +128,16 @@ climb : (t : Trailed) → IsTrail t → (b : AreBegun t) → (k : ℕ) → k < t
 climb t kt b zero lt = let h = b 1 (omega arith) (omega (arith, lt)) in (h.0, h.1, h.2, omega (arith, h.3), omega arith)
 climb t kt b (suc k) lt =
     let i = climb t kt b k (omega (arith, lt)) in
-    let h = b (suc k + 1) (omega arith) (omega (arith, lt)) in
-    (h.0, h.1, h.2, h.3, elim (cases_lt i.0 h.0) [
-      | inl above ↦ omega (arith, above, i.4)
-      | inr under ↦ absurd (let r = rising_at t.level t.made h.0 i.0 h.1 i.1 kt.rising under h.2 i.2 in omega (arith, r, h.3, i.3))
-    ])
+    let h = b (suc k + 1) (omega arith) (omega (arith, lt)) in (
+      h.0,
+      h.1,
+      h.2,
+      h.3,
+      elim (cases_lt i.0 h.0) [
+        | inl above ↦ omega (arith, above, i.4)
+        | inr under ↦ absurd (let r = rising_at t.level t.made h.0 i.0 h.1 i.1 kt.rising under h.2 i.2 in omega (arith, r, h.3, i.3))
+      ],
+    )
 
 pub levels_few : (t : Trailed) → IsTrail t → AreBegun t → t.level ≤ length t.made
 levels_few t kt b = elim (cases_lt 0 t.level) [

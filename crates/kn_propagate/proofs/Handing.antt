@@ -135,9 +135,9 @@ engine_is t ws chains visited last pending find w =
       first = λ p m e le before. elim (w.tabled.founded p m e) [
         | inl a ↦ a.0
         | inr a ↦ elim (a.1) [
-            | inl z ↦ absurd (omega (arith, z, le))
-            | inr f ↦ (let b = before f.0 f.1 f.2 f.3 in absurd (omega (arith, b, f.4)))
-          ]
+          | inl z ↦ absurd (omega (arith, z, le))
+          | inr f ↦ (let b = before f.0 f.1 f.2 f.3 in absurd (omega (arith, b, f.4)))
+        ]
       ];
       last = λ le. last_is t k w.tabled.begun le;
       forced = λ p m id e r. elim (w.tabled.founded p m e) [

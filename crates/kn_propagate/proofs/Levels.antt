@@ -50,10 +50,10 @@ whole_assume t u v m ws chains visited pending find w is iv ml reason kept =
         fresh = record {
           trail = kept;
           fresh = λ l h. (
-            let h1 = subst (λ (k : ℕ). has (literals (below k v.made)) l ≡ true) level h in
-            let h2 = subst (λ (x : List Made). has (literals x) l ≡ true) (below_grown (t.level + 1) (t.level + 1) t.made v.made grows (omega arith)) h1 in
-            let h3 = below_all t.made (t.level + 1) l h2 in
-            subst (λ (x : List Literal). has x l ≡ true) (sym (front ∙ whole)) h3);
+              let h1 = subst (λ (k : ℕ). has (literals (below k v.made)) l ≡ true) level h in
+              let h2 = subst (λ (x : List Made). has (literals x) l ≡ true) (below_grown (t.level + 1) (t.level + 1) t.made v.made grows (omega arith)) h1 in
+              let h3 = below_all t.made (t.level + 1) l h2 in
+              subst (λ (x : List Literal). has x l ≡ true) (sym (front ∙ whole)) h3);
         };
         founded = subst (AreFounded ws) (sym made) (founded_assume ws t m e.fresh.trail reason mlevel e.founded);
         begun = begun_assume t v m level made mlevel e.begun;
@@ -61,36 +61,36 @@ whole_assume t u v m ws chains visited pending find w is iv ml reason kept =
         spare = e.spare;
         rest = λ slot lt. inl (elim (e.rest slot lt) [
           | inl a ↦ elim a [
-              | inl x ↦ inl (settled_grows (t.level + 1) t.made v.made (at_slot ws slot).c (at_slot ws slot).watches grows top x)
-              | inr n ↦ inr (subst (λ (x : List Literal). NoneFalse x (at_slot ws slot).c (at_slot ws slot).watches) (sym front) n)
-            ]
+            | inl x ↦ inl (settled_grows (t.level + 1) t.made v.made (at_slot ws slot).c (at_slot ws slot).watches grows top x)
+            | inr n ↦ inr (subst (λ (x : List Literal). NoneFalse x (at_slot ws slot).c (at_slot ws slot).watches) (sym front) n)
+          ]
           | inr p ↦ inl (settled_grows (t.level + 1) t.made v.made (at_slot ws slot).c (at_slot ws slot).watches grows top
               (settled_now t.level t.made (at_slot ws slot).c (at_slot ws slot).watches old_top (tight (literals t.made) (at_slot ws slot).c p.2 (quiet slot lt)) p.1))
         ]);
         narrow = λ slot lt. elim (e.narrow slot lt) [
           | inl b ↦ inl b
           | inr h ↦ elim h [
-              | inl s ↦ inr (inl (subst (λ (x : List Made). IsSatisfied (literals x) (at_slot ws slot).c) (sym low) s))
-              | inr z ↦ elim (cases_lt (at_slot ws slot).c.bound (length (listed (at_slot ws slot).c))) [
-                  | inl b ↦ inl b
-                  | inr ge ↦ (
-                      let sat = tight (literals t.made) (at_slot ws slot).c (omega (arith, ge, open_most (literals t.made) (listed (at_slot ws slot).c))) (quiet slot lt) in
-                      let same : below 1 t.made ≡ t.made = ap (λ (k : ℕ). below (k + 1) t.made) (sym z.0) ∙ below_top t.level t.made old_top in
-                      inr (inl (subst (λ (x : List Made). IsSatisfied (literals x) (at_slot ws slot).c) (sym (low ∙ same)) sat)))
-                ]
+            | inl s ↦ inr (inl (subst (λ (x : List Made). IsSatisfied (literals x) (at_slot ws slot).c) (sym low) s))
+            | inr z ↦ elim (cases_lt (at_slot ws slot).c.bound (length (listed (at_slot ws slot).c))) [
+              | inl b ↦ inl b
+              | inr ge ↦ (
+                  let sat = tight (literals t.made) (at_slot ws slot).c (omega (arith, ge, open_most (literals t.made) (listed (at_slot ws slot).c))) (quiet slot lt) in
+                  let same : below 1 t.made ≡ t.made = ap (λ (k : ℕ). below (k + 1) t.made) (sym z.0) ∙ below_top t.level t.made old_top in
+                  inr (inl (subst (λ (x : List Made). IsSatisfied (literals x) (at_slot ws slot).c) (sym (low ∙ same)) sat)))
             ]
+          ]
         ];
         due = e.due;
         lower = λ k kl slot sl short. (
-          let same : below (k + 1) v.made ≡ below (k + 1) t.made = below_grown (t.level + 1) (k + 1) t.made v.made grows (omega (arith, kl, level)) in
-          let short2 = subst (λ (x : List Made). IsShort (literals x) (at_slot ws slot).c) same short in
-          elim (cases_lt k t.level) [
-            | inl lt ↦ e.lower k lt slot sl short2
-            | inr ge ↦ (
-                let n : k ≡ t.level = omega (arith, kl, level, ge) in
-                let now : below (k + 1) t.made ≡ t.made = ap (λ (i : ℕ). below (i + 1) t.made) n ∙ below_top t.level t.made old_top in
-                quiet slot sl (subst (λ (x : List Made). IsShort (literals x) (at_slot ws slot).c) now short2))
-          ]);
+            let same : below (k + 1) v.made ≡ below (k + 1) t.made = below_grown (t.level + 1) (k + 1) t.made v.made grows (omega (arith, kl, level)) in
+            let short2 = subst (λ (x : List Made). IsShort (literals x) (at_slot ws slot).c) same short in
+            elim (cases_lt k t.level) [
+              | inl lt ↦ e.lower k lt slot sl short2
+              | inr ge ↦ (
+                  let n : k ≡ t.level = omega (arith, kl, level, ge) in
+                  let now : below (k + 1) t.made ≡ t.made = ap (λ (i : ℕ). below (i + 1) t.made) n ∙ below_top t.level t.made old_top in
+                  quiet slot sl (subst (λ (x : List Made). IsShort (literals x) (at_slot ws slot).c) now short2))
+            ]);
       };
       index = w.index;
       says = tt;
@@ -134,11 +134,11 @@ tabled_back t u ws chains visited now level pending e le is front kept n =
       fresh = record {
         trail = kept;
         fresh = λ m h. (
-          let h1 = subst (λ (k : ℕ). has (literals (below k u.made)) m ≡ true) at h in
-          let inside = below_all u.made level m h1 in
-          let h2 = subst (λ (x : List Made). has (literals x) m ≡ true) (ap (below level) made ∙ below_twice t.made level (level + 1) (omega arith)) h1 in
-          let h3 = e.fresh.fresh m (below_within t.made level t.level le m h2) in
-          in_front (literals u.made) (literals front.0) visited now m n2 inside (subst (λ (x : List Literal). has (take visited x) m ≡ true) lits h3));
+            let h1 = subst (λ (k : ℕ). has (literals (below k u.made)) m ≡ true) at h in
+            let inside = below_all u.made level m h1 in
+            let h2 = subst (λ (x : List Made). has (literals x) m ≡ true) (ap (below level) made ∙ below_twice t.made level (level + 1) (omega arith)) h1 in
+            let h3 = e.fresh.fresh m (below_within t.made level t.level le m h2) in
+            in_front (literals u.made) (literals front.0) visited now m n2 inside (subst (λ (x : List Literal). has (take visited x) m ≡ true) lits h3));
       };
       founded = founded_back ws t.made u.made front e.founded;
       begun = begun_back t u level le at made e.begun;
@@ -148,27 +148,29 @@ tabled_back t u ws chains visited now level pending e le is front kept n =
         | inl a ↦ inl (subst (λ (x : List Made). IsAtRest x (take now (literals u.made)) (at_slot ws slot)) (sym made)
             (rest_back t.made (take visited (literals t.made)) (take now (literals u.made)) (level + 1) (at_slot ws slot) visited_now less a))
         | inr p ↦ elim (cases_lt level t.level) [
-            | inl lower ↦ inl (inr (none_false_within (take now (literals u.made)) (literals (below t.level t.made)) (at_slot ws slot).c (at_slot ws slot).watches (λ l h. below_within t.made (level + 1) t.level (omega (arith, lower)) l (less l h)) p.1))
-            | inr ge ↦ (
-                let same : level ≡ t.level = omega (arith, ge, le) in
-                let all : u.made ≡ t.made = made ∙ ap (λ (k : ℕ). below (k + 1) t.made) same ∙ below_top t.level t.made (rising_top t.level t.made e.fresh.trail.rising) in
-                inr (p.0,
-                  subst (λ (x : List Made). NoneFalse (literals x) (at_slot ws slot).c (at_slot ws slot).watches) (sym (ap (λ (k : ℕ). below k u.made) (at ∙ same) ∙ ap (below t.level) all)) p.1,
-                  subst (λ (x : List Made). open_places (literals x) (listed (at_slot ws slot).c) ≤ (at_slot ws slot).c.bound) (sym all) p.2))
-          ]
+          | inl lower ↦ inl (inr (none_false_within (take now (literals u.made)) (literals (below t.level t.made)) (at_slot ws slot).c (at_slot ws slot).watches (λ l h. below_within t.made (level + 1) t.level (omega (arith, lower)) l (less l h)) p.1))
+          | inr ge ↦ (
+              let same : level ≡ t.level = omega (arith, ge, le) in
+              let all : u.made ≡ t.made = made ∙ ap (λ (k : ℕ). below (k + 1) t.made) same ∙ below_top t.level t.made (rising_top t.level t.made e.fresh.trail.rising) in
+              inr (
+                p.0,
+                subst (λ (x : List Made). NoneFalse (literals x) (at_slot ws slot).c (at_slot ws slot).watches) (sym (ap (λ (k : ℕ). below k u.made) (at ∙ same) ∙ ap (below t.level) all)) p.1,
+                subst (λ (x : List Made). open_places (literals x) (listed (at_slot ws slot).c) ≤ (at_slot ws slot).c.bound) (sym all) p.2,
+              ))
+        ]
       ];
       narrow = λ slot lt. elim (e.narrow slot lt) [
         | inl b ↦ inl b
         | inr h ↦ elim h [
-            | inl s ↦ inr (inl (subst (λ (x : List Made). IsSatisfied (literals x) (at_slot ws slot).c) (sym (ap (below 1) made ∙ below_twice t.made 1 (level + 1) (omega arith))) s))
-            | inr z ↦ inr (inr (omega (arith, at, le, z.0), z.1))
-          ]
+          | inl s ↦ inr (inl (subst (λ (x : List Made). IsSatisfied (literals x) (at_slot ws slot).c) (sym (ap (below 1) made ∙ below_twice t.made 1 (level + 1) (omega arith))) s))
+          | inr z ↦ inr (inr (omega (arith, at, le, z.0), z.1))
+        ]
       ];
       due = e.due;
       lower = λ k kl slot sl short. (
-        let kl2 : k < level = omega (arith, kl, at) in
-        let same : below (k + 1) u.made ≡ below (k + 1) t.made = ap (below (k + 1)) made ∙ below_twice t.made (k + 1) (level + 1) (omega (arith, kl2)) in
-        e.lower k (omega (arith, kl2, le)) slot sl (subst (λ (x : List Made). IsShort (literals x) (at_slot ws slot).c) same short));
+          let kl2 : k < level = omega (arith, kl, at) in
+          let same : below (k + 1) u.made ≡ below (k + 1) t.made = ap (below (k + 1)) made ∙ below_twice t.made (k + 1) (level + 1) (omega (arith, kl2)) in
+          e.lower k (omega (arith, kl2, le)) slot sl (subst (λ (x : List Made). IsShort (literals x) (at_slot ws slot).c) same short));
     }
 
 says_back : (t u : Trailed) (ws : List Watching) (visited now level : ℕ) (last : Option Step) → IsTrail t → ((k : ℕ) → k < t.level → IsQuiet (literals (below (k + 1) t.made)) ws) → level ≤ t.level → u.made ≡ below (level + 1) t.made → length u.made ≤ length t.made → now ≡ min visited (length u.made) → Says t ws visited last → Says u ws now (closed_only last)
@@ -181,7 +183,8 @@ says_back t u ws visited now level (Some Closed) k lower le made few n s = (
     | inr ge ↦ (
         let same : level ≡ t.level = omega (arith, ge, le) in
         subst (λ (x : List Made). IsQuiet (literals x) ws) (sym (ap (λ (i : ℕ). below (i + 1) t.made) same ∙ below_top t.level t.made (rising_top t.level t.made k.rising))) s.1)
-  ]))
+  ]),
+)
 
 -- The literals of higher levels lose their values.
 pub whole_back : (t u : Trailed) (ws : List Watching) (chains : Chained) (visited now level : ℕ) (last : Option Step) (pending : List ℕ) (find : ℕ → Option ℕ) → IsWhole t ws chains visited last pending find → level ≤ t.level → u ≡ (record t { level = level; made = below (level + 1) t.made }) → IsFront u.made t.made → IsTrail u → now ≡ min visited (length u.made) → IsWhole u ws chains now (closed_only last) pending find

@@ -61,9 +61,9 @@ in_more xs k x lt h =
     elim (or_cases (is_in x (take k xs)) (is_in x (slice_index_or xs k 0 ∷ [])) (sym (list_any-append (λ (y : ℕ). eqb y x) (take k xs) (slice_index_or xs k 0 ∷ [])) ∙ both)) [
       | inl i ↦ inl i
       | inr i ↦ elim (or_cases (eqb (slice_index_or xs k 0) x) false i) [
-          | inl e ↦ inr (sym (eqb-true _ _ e))
-          | inr e ↦ absurd cc
-        ]
+        | inl e ↦ inr (sym (eqb-true _ _ e))
+        | inr e ↦ absurd cc
+      ]
     ]
 
 pub settled_step : (ws : List Watching) (pending : List ℕ) (k : ℕ) (t u v : Trailed) → k < length pending → IsGrown t u → IsGrown u v → IsGrown t v → (IsShort (literals v.made) (at_slot ws (slice_index_or pending k 0)).c → ⊥) → AreSettled (literals t.made) (literals u.made) ws (take k pending) → AreSettled (literals t.made) (literals v.made) ws (take (k + 1) pending)

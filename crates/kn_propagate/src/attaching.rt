@@ -29,7 +29,13 @@ pub fn attach<W: Watched>(slots: &Vec<Slot<W>>, chains: &mut Chains, owner: usiz
 }
 
 // gives a place of a slot an entry, if it is watched
-fn attach_at<W: Watched>(slots: &Vec<Slot<W>>, chains: &mut Chains, owner: usize, place: usize, vars: u64)
+fn attach_at<W: Watched>(
+    slots: &Vec<Slot<W>>,
+    chains: &mut Chains,
+    owner: usize,
+    place: usize,
+    vars: u64,
+)
     requires owner { owner < length (seen_as W.bounded W.watches slots.now.items) }
     requires place { place < length (listed (at_slot (seen_as W.bounded W.watches slots.now.items) owner).c) }
     requires few { length (seen_as W.bounded W.watches slots.now.items) ≤ nobody }

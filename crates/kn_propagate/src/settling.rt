@@ -7,7 +7,7 @@ ghost use Rattle.kn_propagate.specs.Chains.{seen_as, at_slot, is_in, AreKept, Is
 
 use crate::slot::Slot;
 use crate::visiting::push_forced;
-use kn_watch::{look, Look, Trail, Watched};
+use kn_watch::{Look, Trail, Watched, look};
 
 /// Makes true what each constraint of the list forces. The slot of one in conflict, at which it stopped.
 pub fn settle<W: Watched>(

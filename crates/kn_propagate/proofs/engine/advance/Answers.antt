@@ -29,7 +29,7 @@ returns-clause-tabled g c =
     let before = tabled_settled c.args.trail.now c.settle.new.trail ws c.args.chains.now c.args.visited.now c.args.pending.now.items c.requires c.settle.ensures.present c.settle.ensures.reasons settled in
     let e = c.propagate.ensures in
     subst (λ (x : List ℕ). IsTabled c.propagate.new.trail new c.propagate.new.chains c.propagate.new.visited x) (sym c.clear.ensures.items)
-      (tabled_walked c.settle.new.trail c.propagate.new.trail ws new c.args.chains.now c.propagate.new.chains c.args.visited.now c.propagate.new.visited before e.sized e.kept e.same e.present e.reasons e.spared e.visited e.fresh e.idle)
+    (tabled_walked c.settle.new.trail c.propagate.new.trail ws new c.args.chains.now c.propagate.new.chains c.args.visited.now c.propagate.new.visited before e.sized e.kept e.same e.present e.reasons e.spared e.visited e.fresh e.idle)
 
 pub returns-clause-reasons : goal.returns-clause-reasons
 returns-clause-reasons g c =

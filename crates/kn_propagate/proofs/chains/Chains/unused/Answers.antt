@@ -28,5 +28,5 @@ returns c =
     let q : old.spare ≡ (c.self.inside.spare - 1) + 1 = grind (arith, common_steps) in
     let lt : c.self.inside.spare - 1 < length c.self.inside.entries.items = omega (arith, w, long, s, q) in
     let read : c.index.result.now.next ≡ slice_index_or old.nexts (c.self.inside.spare - 1) 0 =
-      ap (λ (x : Entry). x.next) c.index.ensures ∙ sym (get_or-map (λ (x : Entry). x.next) c.self.inside.entries.items (c.self.inside.spare - 1) c.index.result.now 0 lt) ∙ ap (λ (x : Chained). slice_index_or x.nexts (c.self.inside.spare - 1) 0) v in
+    ap (λ (x : Entry). x.next) c.index.ensures ∙ sym (get_or-map (λ (x : Entry). x.next) c.self.inside.entries.items (c.self.inside.spare - 1) c.index.result.now 0 lt) ∙ ap (λ (x : Chained). slice_index_or x.nexts (c.self.inside.spare - 1) 0) v in
     unused_drawn old _ (c.self.inside.spare - 1) c.requires.spare q even (ap (λ (x : Chained). x.spots) v) (ap (λ (x : Chained). x.nexts) v) (ap (λ (x : Chained). x.heads) v) (ap (λ (x : Chained). x.room) v) read

@@ -41,4 +41,3 @@ returns-clause-kept g c =
     let last : c.self.inside.last ≡ Some Closed = ap (λ (x : Engined). x.last) c.self.view_is ∙ c.requires.closed in
     let whole = whole_assume c.self.inside.trail c.raise.new.self c.push.new.self m ws c.self.inside.chains c.self.inside.visited c.self.inside.pending.items find (subst (λ (x : Option Step). IsWhole c.self.inside.trail ws c.self.inside.chains c.self.inside.visited x c.self.inside.pending.items find) last c.self.invariant) c.raise.ensures c.push.ensures.made refl refl c.push.ensures.kept in
     engine_is c.push.new.self ws c.self.inside.chains c.self.inside.visited None c.self.inside.pending.items find whole
-

@@ -38,4 +38,3 @@ returns-clause-kept g c =
     let back = whole_back c.self.inside.trail c.back_to.new.self ws c.self.inside.chains c.self.inside.visited c.min-self-inside.result c.args.level c.self.inside.last c.self.inside.pending.items find c.self.invariant le c.back_to.ensures.made c.back_to.ensures.front c.back_to.ensures.kept now in
     let whole : IsWhole c.back_to.new.self ws c.self.inside.chains c.min-self-inside.result c.closed_only-self-inside.result c.self.inside.pending.items find = subst (λ (x : Option Step). IsWhole c.back_to.new.self ws c.self.inside.chains c.min-self-inside.result x c.self.inside.pending.items find) (sym c.closed_only-self-inside.ensures) back in
     engine_is c.back_to.new.self ws c.self.inside.chains c.min-self-inside.result c.closed_only-self-inside.result c.self.inside.pending.items find whole
-

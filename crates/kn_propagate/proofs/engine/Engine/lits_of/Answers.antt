@@ -30,7 +30,7 @@ returns-in-Some-clause-value g c =
     let lt : slot < length c.self.inside.slots.items = omega (arith, o.0, length-seen b w c.self.inside.slots.items) in
     let here = seen_here b w c.self.inside.slots.items slot c.index.result.now lt c.index.ensures in
     let live : live_in c.args.self.now.live c.args.id ≡ Some (b c.index.result.now.watch) =
-      ap (λ (x : Engined). live_in x.live c.args.id) (sym c.self.view_is) ∙ live_is ws slot c.args.id (distinct ws (get nat_eq c.self.inside.index) c.self.invariant.index) o.0 o.1 ∙ ap (λ (x : Watching). Some x.c) here in
+    ap (λ (x : Engined). live_in x.live c.args.id) (sym c.self.view_is) ∙ live_is ws slot c.args.id (distinct ws (get nat_eq c.self.inside.index) c.self.invariant.index) o.0 o.1 ∙ ap (λ (x : Watching). Some x.c) here in
     ap (λ (x : List Literal). Some x) c.lits.ensures ∙ sym (ap (λ (x : Option Bounded). option_map listed x) live)
 
 pub returns-in-Some-clause-kept : goal.returns-in-Some-clause-kept
@@ -41,7 +41,7 @@ returns-in-None-clause-value g c =
     let ws = seen_as (held_bounded g.C.Watched.bounded g.K.Watched.bounded) (held_watches g.C.Watched.watches g.K.Watched.watches) c.self.inside.slots.items in
     let f : get nat_eq c.self.inside.index c.args.id ≡ None = sym c.in-None.ensures.value in
     let live : live_in c.args.self.now.live c.args.id ≡ None =
-      ap (λ (x : Engined). live_in x.live c.args.id) (sym c.self.view_is) ∙ none_is ws c.args.id (λ slot lt e. (let k = c.self.invariant.index.kept c.args.id slot lt e in absurd cc)) in
+    ap (λ (x : Engined). live_in x.live c.args.id) (sym c.self.view_is) ∙ none_is ws c.args.id (λ slot lt e. (let k = c.self.invariant.index.kept c.args.id slot lt e in absurd cc)) in
     sym (ap (λ (x : Option Bounded). option_map listed x) live)
 
 pub returns-in-None-clause-kept : goal.returns-in-None-clause-kept

@@ -133,4 +133,3 @@ returns-in-None-clause-closed g c h =
     let e = c.advance-stopped.ensures in
     let whole : IsWhole c.advance-stopped.new.trail new c.advance-stopped.new.chains c.advance-stopped.new.visited (Some Closed) c.advance-stopped.new.pending.items find = whole_closed c.advance-stopped.new.trail ws new c.advance-stopped.new.chains c.advance-stopped.new.visited c.advance-stopped.new.pending.items find c.self.invariant.index e.same e.tabled c.in-None.ensures.all c.in-None.ensures.quiet in
     (engine_is c.advance-stopped.new.trail new c.advance-stopped.new.chains c.advance-stopped.new.visited _ c.advance-stopped.new.pending.items find whole).stepped
-
