@@ -82,8 +82,8 @@ whole_room t ws new chains more visited last pending due find found w c a b f =
       kept = λ id slot lt q. f id ∙ w.index.kept id slot lt q;
     } in
     subst (λ (x : List Watching). IsWhole t x more visited last due found) (sym a)
-      (subst (λ (x : Chained). IsWhole t ws x visited last due found) (sym c)
-        (subst (λ (x : List ℕ). IsWhole t ws (record chains { room = more.room }) visited last x found) (sym b) (record { tabled = same; index = index; says = w.says })))
+    (subst (λ (x : Chained). IsWhole t ws x visited last due found) (sym c)
+    (subst (λ (x : List ℕ). IsWhole t ws (record chains { room = more.room }) visited last x found) (sym b) (record { tabled = same; index = index; says = w.says })))
 
 joined : (o : Option ℕ) (c : Bounded) (a b : List Live) → with_live o c (a ++ b) ≡ with_live o c a ++ b
 joined None c a b = refl
@@ -99,9 +99,12 @@ none_behind (l ∷ live) = ap (λ (x : List Live). l ∷ x) (none_behind live)
 
 -- one live constraint more
 pub added_live : (ws new : List Watching) (id : ℕ) (c : Bounded) (live : List Live) → live_of ws ≡ live → HasNew ws new id c → IsAdded live id c (live_of new)
-added_live ws new id c live e h =
-    (live, [], sym (none_behind live),
-     ap live_of h.1 ∙ live_push ws h.0 id h.2 ∙ ap (λ (x : List Live). x ++ record { id = id; constraint = h.0.c } ∷ []) e ∙ ap (λ (x : Bounded). live ++ record { id = id; constraint = x } ∷ []) h.3)
+added_live ws new id c live e h = (
+  live,
+  [],
+  sym (none_behind live),
+  ap live_of h.1 ∙ live_push ws h.0 id h.2 ∙ ap (λ (x : List Live). x ++ record { id = id; constraint = h.0.c } ∷ []) e ∙ ap (λ (x : Bounded). live ++ record { id = id; constraint = x } ∷ []) h.3,
+)
 
 pub whole_added : (t : Trailed) (ws new : List Watching) (chains : Chained) (visited id : ℕ) (c : Bounded) (pending : List ℕ) (find found : ℕ → Option ℕ) → IsTabled t new chains visited pending → HasNew ws new id c → IsIndex ws find → live_in (live_of ws) id ≡ None → ((q : ℕ) → found q ≡ cond (eqb id q) (Some (length ws)) (find q)) → IsWhole t new chains visited None pending found
 whole_added t ws new chains visited id c pending find found w h x fresh f =
@@ -109,7 +112,7 @@ whole_added t ws new chains visited id c pending find found w h x fresh f =
     let at_last : (at_slot new (length ws)).id ≡ Some id = ap (λ (z : List Watching). (at_slot z (length ws)).id) h.1 ∙ ap (λ (z : Watching). z.id) (last_push ws h.0) ∙ h.2 in
     let long : length new ≡ length ws + 1 = ap (λ (z : List Watching). length z) h.1 ∙ long_push ws h.0 in
     let other : (q slot : ℕ) → slot < length ws → (at_slot ws slot).id ≡ Some q → id ≢ q = λ q slot lt e s. (
-      let l = live_is ws slot id (distinct ws find x) lt (e ∙ ap (λ (z : ℕ). Some z) (sym s)) in absurd cc) in
+    let l = live_is ws slot id (distinct ws find x) lt (e ∙ ap (λ (z : ℕ). Some z) (sym s)) in absurd cc) in
     record {
       tabled = w;
       index = record {

@@ -79,32 +79,39 @@ placed_moved t visited pending slot w none ns nf nc = (
   elim (cases_lt w.c.bound (length (listed w.c))) [
     | inl b ↦ inl b
     | inr ge ↦ absurd (ns (tight (literals t.made) w.c (omega (arith, ge, open_most (literals t.made) (listed w.c))) (quiet_look (literals t.made) w.c (nc, nf))))
-  ])
+  ],
+)
 
 placed_satisfied : (t : Trailed) (visited : ℕ) (pending : List ℕ) (slot : ℕ) (w : Watching) → IsTrail t → IsLatest t.made w.c w.watches → IsSatisfied (literals t.made) w.c → HasWatches w.c w.watches → Waits t w.c → Placed t visited pending slot w
 unfolding Waits
 placed_satisfied t visited pending slot w k latest sat has waits = elim (cases_lt w.c.bound (length (listed w.c))) [
-  | inl b ↦ (elim (started t.made w.c w.watches t.level latest has b waits) [
+  | inl b ↦ (
+    elim (started t.made w.c w.watches t.level latest has b waits) [
       | inl n ↦ inl (inl (settled_now t.level t.made w.c w.watches (rising_top t.level t.made k.rising) sat n))
       | inr s ↦ inl (inl s)
-    ], inl b)
+    ],
+    inl b,
+  )
   | inr ge ↦ elim (cases_lt 0 t.level) [
-      | inl high ↦ settled_low t visited pending slot w (low t w.c ge waits (omega (arith, high)))
-      | inr z ↦ settled_low t visited pending slot w (subst (λ (x : List Made). IsSatisfied (literals x) w.c) (sym (all_at t k (omega (arith, z)))) sat)
-    ]
+    | inl high ↦ settled_low t visited pending slot w (low t w.c ge waits (omega (arith, high)))
+    | inr z ↦ settled_low t visited pending slot w (subst (λ (x : List Made). IsSatisfied (literals x) w.c) (sym (all_at t k (omega (arith, z)))) sat)
+  ]
 ]
 
 placed_due : (t : Trailed) (visited : ℕ) (pending : List ℕ) (slot : ℕ) (w : Watching) → IsTrail t → IsLatest t.made w.c w.watches → open_places (literals t.made) (listed w.c) ≤ w.c.bound → HasWatches w.c w.watches → Waits t w.c → is_in slot pending ≡ true → Placed t visited pending slot w
 unfolding Waits
 placed_due t visited pending slot w k latest few has waits i = elim (cases_lt w.c.bound (length (listed w.c))) [
-  | inl b ↦ (elim (started t.made w.c w.watches t.level latest has b waits) [
+  | inl b ↦ (
+    elim (started t.made w.c w.watches t.level latest has b waits) [
       | inl n ↦ inr (i, n, few)
       | inr s ↦ inl (inl s)
-    ], inl b)
+    ],
+    inl b,
+  )
   | inr ge ↦ elim (cases_lt 0 t.level) [
-      | inl high ↦ settled_low t visited pending slot w (low t w.c ge waits (omega (arith, high)))
-      | inr z ↦ (inr (i, none_zero t.made w.c w.watches t.level (omega (arith, z)), few), inr (inr (omega (arith, z), i)))
-    ]
+    | inl high ↦ settled_low t visited pending slot w (low t w.c ge waits (omega (arith, high)))
+    | inr z ↦ (inr (i, none_zero t.made w.c w.watches t.level (omega (arith, z)), few), inr (inr (omega (arith, z), i)))
+  ]
 ]
 
 -- one constraint more
@@ -142,13 +149,13 @@ guarded_more : (t : Trailed) (pending more : List ℕ) (slot : ℕ) (w : Watchin
 guarded_more t pending more slot w h g = elim g [
   | inl b ↦ inl b
   | inr g ↦ elim g [
-      | inl s ↦ inr (inl s)
-      | inr z ↦ inr (inr (z.0, h z.1))
-    ]
+    | inl s ↦ inr (inl s)
+    | inr z ↦ inr (inr (z.0, h z.1))
+  ]
 ]
 
 tabled_push : (t : Trailed) (ws : List Watching) (w : Watching) (chains new : Chained) (visited id : ℕ) (pending more : List ℕ) → IsTabled t ws chains visited pending → IsStill (ws ++ w ∷ []) new → AreSpare new → length new.heads ≡ 2 * t.vars + 3 → IsWithin t.vars w.c → HasWatches w.c w.watches → w.id ≡ Some id → length ws < nobody → Waits t w.c
-  → ((slot : ℕ) → is_in slot pending ≡ true → is_in slot more ≡ true) → ((slot : ℕ) → is_in slot more ≡ true → (is_in slot pending ≡ true) ⊎ (slot ≡ length ws)) → Placed t visited more (length ws) w → IsTabled t (ws ++ w ∷ []) new visited more
+    → ((slot : ℕ) → is_in slot pending ≡ true → is_in slot more ≡ true) → ((slot : ℕ) → is_in slot more ≡ true → (is_in slot pending ≡ true) ⊎ (slot ≡ length ws)) → Placed t visited more (length ws) w → IsTabled t (ws ++ w ∷ []) new visited more
 unfolding Waits
 tabled_push t ws w chains new visited id pending more e still spare sized within watches is few waits up down placed = record {
   small = e.small;
@@ -183,9 +190,9 @@ in_either : (xs : List ℕ) (y x : ℕ) → is_in x (xs ++ y ∷ []) ≡ true �
 in_either xs y x i = elim (or_cases (is_in x xs) (eqb y x || false) (sym (list_any-append (λ (z : ℕ). eqb z x) xs (y ∷ [])) ∙ i)) [
   | inl a ↦ inl a
   | inr a ↦ elim (or_cases (eqb y x) false a) [
-      | inl b ↦ inr (sym (eqb-true y x b))
-      | inr b ↦ absurd cc
-    ]
+    | inl b ↦ inr (sym (eqb-true y x b))
+    | inr b ↦ absurd cc
+  ]
 ]
 
 abbrev Start : Trailed → Watching → Visit → Type 0
@@ -193,7 +200,7 @@ Start t w visit = IsStart t.made w.c w.watches visit
 
 -- not to be looked at
 pub tabled_rests : (t : Trailed) (ws : List Watching) (w : Watching) (chains new : Chained) (visited id : ℕ) (pending : List ℕ) → IsTabled t ws chains visited pending → IsStill (ws ++ w ∷ []) new → AreSpare new → length new.heads ≡ 2 * t.vars + 3 → IsWithin t.vars w.c → HasWatches w.c w.watches → w.id ≡ Some id → length ws < nobody → ((k : ℕ) → k < t.level → IsShort (literals (below (k + 1) t.made)) w.c → ⊥)
-  → (((place : ℕ) × Start t w (turned.Moved place)) ⊎ Start t w turned.Satisfied) → IsTabled t (ws ++ w ∷ []) new visited pending
+    → (((place : ℕ) × Start t w (turned.Moved place)) ⊎ Start t w turned.Satisfied) → IsTabled t (ws ++ w ∷ []) new visited pending
 unfolding Waits
 tabled_rests t ws w chains new visited id pending e still spare sized within has is few waits s =
     tabled_push t ws w chains new visited id pending pending e still spare sized within has is few waits (λ slot i. i) (λ slot i. inl i) (elim s [
@@ -203,7 +210,7 @@ tabled_rests t ws w chains new visited id pending e still spare sized within has
 
 -- to be looked at
 pub tabled_waits : (t : Trailed) (ws : List Watching) (w : Watching) (chains new : Chained) (visited id : ℕ) (pending : List ℕ) → IsTabled t ws chains visited pending → IsStill (ws ++ w ∷ []) new → AreSpare new → length new.heads ≡ 2 * t.vars + 3 → IsWithin t.vars w.c → HasWatches w.c w.watches → w.id ≡ Some id → length ws < nobody → ((k : ℕ) → k < t.level → IsShort (literals (below (k + 1) t.made)) w.c → ⊥)
-  → (Start t w turned.Forces ⊎ Start t w turned.Conflict) → IsTabled t (ws ++ w ∷ []) new visited (pending ++ length ws ∷ [])
+    → (Start t w turned.Forces ⊎ Start t w turned.Conflict) → IsTabled t (ws ++ w ∷ []) new visited (pending ++ length ws ∷ [])
 unfolding Waits
 tabled_waits t ws w chains new visited id pending e still spare sized within has is few waits s =
     let i = in_last pending (length ws) in

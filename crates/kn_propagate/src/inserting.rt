@@ -37,7 +37,10 @@ pub fn insert<W: Watched>(
     let mut watch = watch;
     let visit = watch.first_watches(trail);
     let owner = slots.len();
-    let Ok(()) = slots.push(Slot { id: Some(id), watch }) else {
+    let Ok(()) = slots.push(Slot {
+        id: Some(id),
+        watch,
+    }) else {
         unreachable!()
     };
     attach(slots, chains, owner, trail.vars());

@@ -40,7 +40,7 @@ returns-in-Moved-clause-tabled g c =
     let still = subst (λ (z : List Watching). IsStill z c.attach.new.chains) is c.attach.ensures.still in
     let sized = c.attach.ensures.sized ∙ ap (λ (n : ℕ). 2 * n + 3) c.vars.ensures.vars in
     subst (λ (z : List Watching). IsTabled c.args.trail.now z c.attach.new.chains c.args.visited c.args.pending.now.items) (sym is)
-      (tabled_rests c.args.trail.now ws x c.args.chains.now c.attach.new.chains c.args.visited c.args.id c.args.pending.now.items c.requires.tabled still c.attach.ensures.spare sized within c.first_watches-visit.ensures.watches refl c.requires.few (λ k lt short. c.requires.waits k lt (subst (IsShort (literals (below (k + 1) c.args.trail.now.made))) same short)) (inl (c.in-Moved.place, c.in-Moved.ensures.means)))
+    (tabled_rests c.args.trail.now ws x c.args.chains.now c.attach.new.chains c.args.visited c.args.id c.args.pending.now.items c.requires.tabled still c.attach.ensures.spare sized within c.first_watches-visit.ensures.watches refl c.requires.few (λ k lt short. c.requires.waits k lt (subst (IsShort (literals (below (k + 1) c.args.trail.now.made))) same short)) (inl (c.in-Moved.place, c.in-Moved.ensures.means)))
 
 pub returns-in-Satisfied-clause-tabled : goal.returns-in-Satisfied-clause-tabled
 returns-in-Satisfied-clause-tabled g c =
@@ -58,7 +58,7 @@ returns-in-Satisfied-clause-tabled g c =
     let still = subst (λ (z : List Watching). IsStill z c.attach.new.chains) is c.attach.ensures.still in
     let sized = c.attach.ensures.sized ∙ ap (λ (n : ℕ). 2 * n + 3) c.vars.ensures.vars in
     subst (λ (z : List Watching). IsTabled c.args.trail.now z c.attach.new.chains c.args.visited c.args.pending.now.items) (sym is)
-      (tabled_rests c.args.trail.now ws x c.args.chains.now c.attach.new.chains c.args.visited c.args.id c.args.pending.now.items c.requires.tabled still c.attach.ensures.spare sized within c.first_watches-visit.ensures.watches refl c.requires.few (λ k lt short. c.requires.waits k lt (subst (IsShort (literals (below (k + 1) c.args.trail.now.made))) same short)) (inr c.in-Satisfied.ensures.means))
+    (tabled_rests c.args.trail.now ws x c.args.chains.now c.attach.new.chains c.args.visited c.args.id c.args.pending.now.items c.requires.tabled still c.attach.ensures.spare sized within c.first_watches-visit.ensures.watches refl c.requires.few (λ k lt short. c.requires.waits k lt (subst (IsShort (literals (below (k + 1) c.args.trail.now.made))) same short)) (inr c.in-Satisfied.ensures.means))
 
 pub returns-in-Forces-clause-tabled : goal.returns-in-Forces-clause-tabled
 returns-in-Forces-clause-tabled g c =
@@ -77,8 +77,8 @@ returns-in-Forces-clause-tabled g c =
     let sized = c.attach.ensures.sized ∙ ap (λ (n : ℕ). 2 * n + 3) c.vars.ensures.vars in
     let due : c.due.new.pending.items ≡ c.args.pending.now.items ++ length ws ∷ [] = c.due.ensures ∙ ap (λ (n : ℕ). c.args.pending.now.items ++ n ∷ []) owner in
     subst (λ (z : List Watching). IsTabled c.args.trail.now z c.attach.new.chains c.args.visited c.due.new.pending.items) (sym is)
-      (subst (λ (p : List ℕ). IsTabled c.args.trail.now (ws ++ x ∷ []) c.attach.new.chains c.args.visited p) (sym due)
-        (tabled_waits c.args.trail.now ws x c.args.chains.now c.attach.new.chains c.args.visited c.args.id c.args.pending.now.items c.requires.tabled still c.attach.ensures.spare sized within c.first_watches-visit.ensures.watches refl c.requires.few (λ k lt short. c.requires.waits k lt (subst (IsShort (literals (below (k + 1) c.args.trail.now.made))) same short)) (inl c.in-Forces.ensures.means)))
+    (subst (λ (p : List ℕ). IsTabled c.args.trail.now (ws ++ x ∷ []) c.attach.new.chains c.args.visited p) (sym due)
+    (tabled_waits c.args.trail.now ws x c.args.chains.now c.attach.new.chains c.args.visited c.args.id c.args.pending.now.items c.requires.tabled still c.attach.ensures.spare sized within c.first_watches-visit.ensures.watches refl c.requires.few (λ k lt short. c.requires.waits k lt (subst (IsShort (literals (below (k + 1) c.args.trail.now.made))) same short)) (inl c.in-Forces.ensures.means)))
 
 pub returns-in-Conflict-clause-tabled : goal.returns-in-Conflict-clause-tabled
 returns-in-Conflict-clause-tabled g c =
@@ -97,6 +97,5 @@ returns-in-Conflict-clause-tabled g c =
     let sized = c.attach.ensures.sized ∙ ap (λ (n : ℕ). 2 * n + 3) c.vars.ensures.vars in
     let due : c.due-in-Conflict.new.pending.items ≡ c.args.pending.now.items ++ length ws ∷ [] = c.due-in-Conflict.ensures ∙ ap (λ (n : ℕ). c.args.pending.now.items ++ n ∷ []) owner in
     subst (λ (z : List Watching). IsTabled c.args.trail.now z c.attach.new.chains c.args.visited c.due-in-Conflict.new.pending.items) (sym is)
-      (subst (λ (p : List ℕ). IsTabled c.args.trail.now (ws ++ x ∷ []) c.attach.new.chains c.args.visited p) (sym due)
-        (tabled_waits c.args.trail.now ws x c.args.chains.now c.attach.new.chains c.args.visited c.args.id c.args.pending.now.items c.requires.tabled still c.attach.ensures.spare sized within c.first_watches-visit.ensures.watches refl c.requires.few (λ k lt short. c.requires.waits k lt (subst (IsShort (literals (below (k + 1) c.args.trail.now.made))) same short)) (inr c.in-Conflict.ensures.means)))
-
+    (subst (λ (p : List ℕ). IsTabled c.args.trail.now (ws ++ x ∷ []) c.attach.new.chains c.args.visited p) (sym due)
+    (tabled_waits c.args.trail.now ws x c.args.chains.now c.attach.new.chains c.args.visited c.args.id c.args.pending.now.items c.requires.tabled still c.attach.ensures.spare sized within c.first_watches-visit.ensures.watches refl c.requires.few (λ k lt short. c.requires.waits k lt (subst (IsShort (literals (below (k + 1) c.args.trail.now.made))) same short)) (inr c.in-Conflict.ensures.means)))
