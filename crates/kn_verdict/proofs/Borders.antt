@@ -26,9 +26,9 @@ different_by : (lits : List Literal) → ((i j : ℕ) (d : ℕ) → i < j → j 
 different_by [] h = tt
 different_by (l ∷ lits) h = (
   list_any_none (λ k. k.variable == l.variable) lits
-  (λ k d within. ne_eqb _ _ (λ e.
-    let less = h 0 (suc k) 0 (omega arith) (omega (arith, length-map lits (λ (x : Literal). x.variable))) in
-    omega (arith, less, e, get_or-map (λ (x : Literal). x.variable) lits k d 0 within))),
+      (λ k d within. ne_eqb _ _ (λ e.
+      let less = h 0 (suc k) 0 (omega arith) (omega (arith, length-map lits (λ (x : Literal). x.variable))) in
+      omega (arith, less, e, get_or-map (λ (x : Literal). x.variable) lits k d 0 within))),
   different_by lits (λ i j d less within. h (suc i) (suc j) d (omega arith) (omega arith)),
 )
 
@@ -55,11 +55,12 @@ border-place g d node h within =
 pub border-literal : (g : Gathered) (place x : ℕ) (l : Literal) → slice_get (map (λ k. k.variable) g.border) place ≡ Some x → l ≡ get_or g.border place l
     → (place < length g.border) × (has g.border l ≡ true) × (l.variable ≡ x)
 border-literal g place x l h e =
-    let low : place < length g.border = omega (arith, slice_get_within (map (λ (k : Literal). k.variable) g.border) place x h, length-map g.border (λ (k : Literal). k.variable)) in
-    (low,
-    list_any_at (is_same l) g.border place l low (subst (λ k. is_same l k ≡ true) e (same-refl l)),
-    ap (λ k. k.variable) e ∙ sym (get_or-map (λ (k : Literal). k.variable) g.border place l 0 low)
-    ∙ get_or_from_slice_get (map (λ (k : Literal). k.variable) g.border) place x 0 h)
+    let low : place < length g.border = omega (arith, slice_get_within (map (λ (k : Literal). k.variable) g.border) place x h, length-map g.border (λ (k : Literal). k.variable)) in (
+      low,
+      list_any_at (is_same l) g.border place l low (subst (λ k. is_same l k ≡ true) e (same-refl l)),
+      ap (λ k. k.variable) e ∙ sym (get_or-map (λ (k : Literal). k.variable) g.border place l 0 low)
+          ∙ get_or_from_slice_get (map (λ (k : Literal). k.variable) g.border) place x 0 h,
+    )
 
 -- the nodes below one of the border are of the border
 pub border-high : (g : Gathered) (d : Table) (node x high low : ℕ) → IsAtBorder g d node → IsBranch d node x high low → IsAtBorder g d high
@@ -156,7 +157,7 @@ found-measured g d (e ∷ es) node m all h = by (cases_Bool (node == e.0)) (foun
     by : (((node == e.0) ≡ true) ⊎ ((node == e.0) ≡ false)) → (found es node ≡ Some m → IsMeasured g d node m) → IsMeasured g d node m
     by (inl t) rest =
         subst (IsMeasured g d node) (some_same e.1 m (sym (cond-true (node == e.0) (Some e.1) (found es node) t) ∙ h))
-          (subst (λ n. IsMeasured g d n e.1) (sym (eqb-true node e.0 t)) all.0)
+        (subst (λ n. IsMeasured g d n e.1) (sym (eqb-true node e.0 t)) all.0)
     by (inr f) rest = rest (sym (cond-false (node == e.0) (Some e.1) (found es node) f) ∙ h)
 
 -- with a node's numbers noted, or none

@@ -7,7 +7,6 @@ use Rattle.kn_verdict.specs.Numbers.{IsFewest, adds}
 use Rattle.kn_verdict.proofs.Counts.{count, count_le, others, count-split, count-set, own-value, adds-not, adds-either, adds-le}
 
 module _ (lits : List Literal) (l : Literal) (different : AreDifferent lits) (there : has lits l ≡ true) where
-
   -- one side, which ignores the variable: where the variable is this value
   side_others : (g : (ℕ → Bool) → Bool) (want : Bool) (m : ℕ) → ((v : ℕ → Bool) (b : Bool) → g (with_value v l.variable b) ≡ g v) → IsFewest lits g want m
       → (v : ℕ → Bool) → g v ≡ want → m ≤ count v (others l.variable lits)
@@ -30,7 +29,6 @@ module _ (lits : List Literal) (l : Literal) (different : AreDifferent lits) (th
       (high_free : (v : ℕ → Bool) (b : Bool) → high (with_value v l.variable b) ≡ high v)
       (low_free : (v : ℕ → Bool) (b : Bool) → low (with_value v l.variable b) ≡ low v)
       (want : Bool) (h k : ℕ) (is_high : IsFewest lits high want h) (is_low : IsFewest lits low want k) where
-
     at_high : (v : ℕ → Bool) → v l.variable ≡ true → f v ≡ high v
     at_high v e = split v ∙ cond-true (v l.variable) (high v) (low v) e
 

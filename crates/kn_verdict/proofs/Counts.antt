@@ -56,14 +56,14 @@ count-split v (k ∷ lits) l d h = by (or_cases (is_same l k) (has lits l) h) (c
     by (inl s) rest =
         let e : k ≡ l = sym (same_literal l k s) in
         let dropped : others l.variable (k ∷ lits) ≡ lits =
-            cond-false (not (k.variable == l.variable)) (k ∷ others l.variable lits) (others l.variable lits) (ap not (eq-eqb k.variable l.variable (ap (λ x. x.variable) e)))
-            ∙ others_none l.variable lits (subst (λ x. names lits x.variable ≡ false) e d.0) in
+        cond-false (not (k.variable == l.variable)) (k ∷ others l.variable lits) (others l.variable lits) (ap not (eq-eqb k.variable l.variable (ap (λ x. x.variable) e)))
+        ∙ others_none l.variable lits (subst (λ x. names lits x.variable ≡ false) e d.0) in
         ap (λ x. adds x (v x.variable) + count v lits) e ∙ ap (λ ls. adds l (v l.variable) + count v ls) (sym dropped)
     by (inr s) rest =
         let apart : (k.variable == l.variable) ≡ false =
-            false_from_ne_true (k.variable == l.variable) (λ t. true≢false (sym (has_names lits l s) ∙ ap (names lits) (sym (eqb-true k.variable l.variable t)) ∙ d.0)) in
+        false_from_ne_true (k.variable == l.variable) (λ t. true≢false (sym (has_names lits l s) ∙ ap (names lits) (sym (eqb-true k.variable l.variable t)) ∙ d.0)) in
         let kept : others l.variable (k ∷ lits) ≡ k ∷ others l.variable lits =
-            cond-true (not (k.variable == l.variable)) (k ∷ others l.variable lits) (others l.variable lits) (ap not apart) in
+        cond-true (not (k.variable == l.variable)) (k ∷ others l.variable lits) (others l.variable lits) (ap not apart) in
         let own = cond {A = ℕ} (is_true_by v k) 1 0 in
         ap (λ n. own + n) (rest s) ∙ swap own (adds l (v l.variable)) (count v (others l.variable lits)) ∙ ap (λ ls. adds l (v l.variable) + count v ls) (sym kept)
 

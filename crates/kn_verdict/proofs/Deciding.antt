@@ -25,10 +25,10 @@ aux_at g d k e low =
     let total = length-append vars g.aux in
     let i = length g.aux - 1 - k in
     let x : slice_index d.order k ≡ get_or g.aux i 0 =
-        ap (λ o. slice_index o k) e ∙ get_or-reverse all k 0 (omega (arith, total, low))
-        ∙ ap (λ j. get_or all j 0) {x = length all - 1 - k} {y = length vars + i} (omega (arith, total, low))
-        ∙ get_or-append_right vars g.aux (length vars) (length vars + i) 0 refl (omega arith)
-        ∙ ap (λ j. get_or g.aux j 0) {x = length vars + i - length vars} {y = i} (omega arith) in
+    ap (λ o. slice_index o k) e ∙ get_or-reverse all k 0 (omega (arith, total, low))
+    ∙ ap (λ j. get_or all j 0) {x = length all - 1 - k} {y = length vars + i} (omega (arith, total, low))
+    ∙ get_or-append_right vars g.aux (length vars) (length vars + i) 0 refl (omega arith)
+    ∙ ap (λ j. get_or g.aux j 0) {x = length vars + i - length vars} {y = i} (omega arith) in
     list_any_at (λ v. v == slice_index d.order k) g.aux i 0 (omega (arith, low)) (eq-eqb (get_or g.aux i 0) (slice_index d.order k) (sym x))
 
 -- which the border does not know
@@ -43,10 +43,10 @@ pub root-below : (g : Gathered) (e : Eliminated) → IsGroup g → IsElimination
 root-below g e group h ok there =
     let vars = map (λ (l : Literal). l.variable) g.border in
     not_above e.table e.result (length g.aux) ok there
-      (omega (arith, ap length h.order, length-reverse (vars ++ g.aux), length-append vars g.aux))
-      (λ k low v.
-        let y = slice_index e.table.order k in
-        h.border (with_value v y true) (with_value v y false) (agrees_at g g.border y v true false (aux_at g e.table k h.order low) group.apart))
+    (omega (arith, ap length h.order, length-reverse (vars ++ g.aux), length-append vars g.aux))
+    (λ k low v.
+    let y = slice_index e.table.order k in
+    h.border (with_value v y true) (with_value v y false) (agrees_at g g.border y v true false (aux_at g e.table k h.order low) group.apart))
 
 -- ---- what the numbers tell
 

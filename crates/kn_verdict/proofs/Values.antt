@@ -109,7 +109,7 @@ values-set v (l ∷ lits) zero x b d h =
     some_same a c e = cc
 values-set v (l ∷ lits) (suc place) x b d h =
     let apart : (l.variable == x) ≡ false =
-        false_from_ne_true (l.variable == x) (λ t. true≢false (sym (named_at lits place x h) ∙ ap (names lits) (sym (eqb-true l.variable x t)) ∙ d.0)) in
+    false_from_ne_true (l.variable == x) (λ t. true≢false (sym (named_at lits place x h) ∙ ap (names lits) (sym (eqb-true l.variable x t)) ∙ d.0)) in
     (λ i. other-value v x l.variable b apart i ∷ values-set v lits place x b d.1 h i)
 
 first-zero : (m place : ℕ) → get_or (replicate m false) place false ≡ false
@@ -139,7 +139,7 @@ pub value-first : (v : ℕ → Bool) (lits : List Literal) (first place : ℕ) (
     → place < length lits → l ≡ get_or lits place l → v l.variable ≡ beq (nat_lt place first) l.positive
 value-first v lits first place l e within is =
     agrees l.positive (nat_lt place first) (v l.variable)
-      (ap (is_true_by v) is ∙ sym (get_or-map (is_true_by v) lits place l false within) ∙ ap (λ ts. get_or ts place false) e ∙ get_or-first first (length lits - first) place)
+    (ap (is_true_by v) is ∙ sym (get_or-map (is_true_by v) lits place l false within) ∙ ap (λ ts. get_or ts place false) e ∙ get_or-first first (length lits - first) place)
 
 -- values that make none of the literals that are asked for true
 pub avoided : (want : Bool) (v : ℕ → Bool) (lits : List Literal) → map (λ l. v l.variable) lits ≡ map (λ l. if want then not l.positive else l.positive) lits → count v (asked want lits) ≡ 0

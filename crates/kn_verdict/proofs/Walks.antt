@@ -63,7 +63,6 @@ witness-constant g d node want values group ok low (v, e) is =
 
 module _ (g : Gathered) (d : Table) (node x high low place : ℕ) (l : Literal) (a b : Fewest) (group : IsGroup g) (ok : IsTable d) (branch : IsBranch d node x high low)
     (there : has g.border l ≡ true) (own : l.variable ≡ x) (measured_high : IsMeasured g d high a) (measured_low : IsMeasured g d low b) where
-
   free_high : (v : ℕ → Bool) (c : Bool) → function_of d high (with_value v l.variable c) ≡ function_of d high v
   free_high = ignores d node high x high low ok branch branch.high_there branch.above_high l.variable own
 
@@ -80,21 +79,21 @@ module _ (g : Gathered) (d : Table) (node x high low place : ℕ) (l : Literal) 
   some_high : (want : Bool) → less want ≡ true → (v : ℕ → Bool) × (function_of d node v ≡ want) → (v : ℕ → Bool) × (function_of d high v ≡ want)
   some_high true t (u, e) =
       let (v, is, c) = chosen-some g.border l (border-different g group) there (function_of d node) (function_of d high) (function_of d low) split free_high free_low true a.holding b.holding measured_high.holding measured_low.holding
-          (function_of d high) a.holding true measured_high.holding (omega (arith, ltb-true _ _ t)) u e in
+      (function_of d high) a.holding true measured_high.holding (omega (arith, ltb-true _ _ t)) u e in
       (v, is)
   some_high false t (u, e) =
       let (v, is, c) = chosen-some (map negated g.border) (negated l) (different-negated g.border (border-different g group)) (has-negated g.border l there) (function_of d node) (function_of d high) (function_of d low) split free_high free_low false a.failing b.failing measured_high.failing measured_low.failing
-          (function_of d high) a.failing true measured_high.failing (omega (arith, ltb-true _ _ t)) u e in
+      (function_of d high) a.failing true measured_high.failing (omega (arith, ltb-true _ _ t)) u e in
       (v, is)
 
   some_low : (want : Bool) → less want ≡ false → (v : ℕ → Bool) × (function_of d node v ≡ want) → (v : ℕ → Bool) × (function_of d low v ≡ want)
   some_low true t (u, e) =
       let (v, is, c) = chosen-some g.border l (border-different g group) there (function_of d node) (function_of d high) (function_of d low) split free_high free_low true a.holding b.holding measured_high.holding measured_low.holding
-          (function_of d low) b.holding false measured_low.holding (omega (arith, ltb-false _ _ t)) u e in
+      (function_of d low) b.holding false measured_low.holding (omega (arith, ltb-false _ _ t)) u e in
       (v, is)
   some_low false t (u, e) =
       let (v, is, c) = chosen-some (map negated g.border) (negated l) (different-negated g.border (border-different g group)) (has-negated g.border l there) (function_of d node) (function_of d high) (function_of d low) split free_high free_low false a.failing b.failing measured_high.failing measured_low.failing
-          (function_of d low) b.failing false measured_low.failing (omega (arith, ltb-false _ _ t)) u e in
+      (function_of d low) b.failing false measured_low.failing (omega (arith, ltb-false _ _ t)) u e in
       (v, is)
 
   pub half-some : (want : Bool) (half : ℕ) → half ≡ (if less want then high else low) → (v : ℕ → Bool) × (function_of d node v ≡ want) → (v : ℕ → Bool) × (function_of d half v ≡ want)

@@ -11,13 +11,21 @@ pub enum Verdict {
     },
 
     /// They say it for a bound that makes no klause: 0, 1, n or n + 1.
-    OutOfRange { bound: u64 },
+    OutOfRange {
+        bound: u64,
+    },
 
     /// They say it for no bound. `bound` is the only one possible, and `values` are values of the border's
     /// variables, ascending, at which the clauses and that bound differ.
-    NotCardinal { bound: u64, values: Assignment },
+    NotCardinal {
+        bound: u64,
+        values: Assignment,
+    },
 
     /// A stage of the elimination is wide, at the variable `level`; stages count from 1, and this is the
     /// first that is wide.
-    Wide { stage: u64, level: u64 },
+    Wide {
+        stage: u64,
+        level: u64,
+    },
 }

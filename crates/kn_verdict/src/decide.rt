@@ -38,7 +38,12 @@ fn decide(alloc: Global, group: &Group, elimination: Elimination) -> Result<Verd
 {
     let n = group.border().len() as u64;
     let mut noted = Measures::new(alloc);
-    let numbers = measure(elimination.diagrams(), group, root_of(group, &elimination), &mut noted)?;
+    let numbers = measure(
+        elimination.diagrams(),
+        group,
+        root_of(group, &elimination),
+        &mut noted,
+    )?;
     if numbers.holding + numbers.failing <= n {
         return unlike(alloc, group, &elimination, &mut noted, numbers);
     }

@@ -17,3 +17,6 @@ mod witness;
 pub use answer::Verdict;
 pub use decide::verdict;
 pub use laws::{a_group_has_one_bound, a_verdict_is_exact};
+
+#[cfg(test)]
+mod tests;

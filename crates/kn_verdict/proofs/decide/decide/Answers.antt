@@ -12,11 +12,14 @@ returns-then-bound-n c =
     let numbers = c.in_ok-numbers.numbers in
     let f = function_of e.table e.result in
     let measured : AreFewest g.border f numbers =
-        subst (λ n. AreFewest g.border (function_of e.table n) numbers) c.root_of.ensures.value
-          (subst (λ d. AreFewest g.border (function_of d c.root_of.result) numbers) c.diagrams.ensures.value c.in_ok-numbers.ensures.measured) in
-    let long = ap length c.border.ensures.value in
-    (c.requires.narrow, cardinal-by g f numbers c.border.ensures.group c.requires.elimination.meaning measured (omega (arith, c.if-numbers-n.false, long)),
-      (c.if-bound-ge2.true, omega (arith, c.if-bound-n.true, long)), c.requires.elimination)
+    subst (λ n. AreFewest g.border (function_of e.table n) numbers) c.root_of.ensures.value
+    (subst (λ d. AreFewest g.border (function_of d c.root_of.result) numbers) c.diagrams.ensures.value c.in_ok-numbers.ensures.measured) in
+    let long = ap length c.border.ensures.value in (
+      c.requires.narrow,
+      cardinal-by g f numbers c.border.ensures.group c.requires.elimination.meaning measured (omega (arith, c.if-numbers-n.false, long)),
+      (c.if-bound-ge2.true, omega (arith, c.if-bound-n.true, long)),
+      c.requires.elimination,
+    )
 
 pub returns-else-bound-ge2 : goal.returns-else-bound-ge2
 returns-else-bound-ge2 c =
@@ -25,10 +28,13 @@ returns-else-bound-ge2 c =
     let numbers = c.in_ok-numbers.numbers in
     let f = function_of e.table e.result in
     let measured : AreFewest g.border f numbers =
-        subst (λ n. AreFewest g.border (function_of e.table n) numbers) c.root_of.ensures.value
-          (subst (λ d. AreFewest g.border (function_of d c.root_of.result) numbers) c.diagrams.ensures.value c.in_ok-numbers.ensures.measured) in
-    let long = ap length c.border.ensures.value in
-    (c.requires.narrow, cardinal-by g f numbers c.border.ensures.group c.requires.elimination.meaning measured (omega (arith, c.if-numbers-n.false, long)),
+    subst (λ n. AreFewest g.border (function_of e.table n) numbers) c.root_of.ensures.value
+    (subst (λ d. AreFewest g.border (function_of d c.root_of.result) numbers) c.diagrams.ensures.value c.in_ok-numbers.ensures.measured) in
+    let long = ap length c.border.ensures.value in (
+      c.requires.narrow,
+      cardinal-by g f numbers c.border.ensures.group c.requires.elimination.meaning measured (omega (arith, c.if-numbers-n.false, long)),
       elim c.else-bound-ge2.branch [
-        else-bound-ge2-via-then-bound-ge2+else-bound-n w ↦ inr (omega (arith, w.if-bound-n.false, long))
-      | else-bound-ge2-via-else-bound-ge2 w ↦ inl (omega (arith, w.if-bound-ge2.false)) ])
+        | else-bound-ge2-via-then-bound-ge2+else-bound-n w ↦ inr (omega (arith, w.if-bound-n.false, long))
+        | else-bound-ge2-via-else-bound-ge2 w ↦ inl (omega (arith, w.if-bound-ge2.false))
+      ],
+    )

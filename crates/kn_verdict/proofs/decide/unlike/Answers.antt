@@ -11,8 +11,8 @@ witness-requires-clause-some c =
     let e = c.args.elimination.now in
     let want = nat_lt c.args.numbers.holding c.only_bound-bound.result in
     subst (λ d. (v : ℕ → Bool) × (function_of d c.root_of-root.result v ≡ want)) (sym c.diagrams-d.ensures.value)
-      (subst (λ n. (v : ℕ → Bool) × (function_of e.table n v ≡ want)) (sym c.root_of-root.ensures.value)
-        (unlike-some g.border (function_of e.table e.result) c.args.numbers c.only_bound-bound.result c.requires.measured c.requires.less))
+    (subst (λ n. (v : ℕ → Bool) × (function_of e.table n v ≡ want)) (sym c.root_of-root.ensures.value)
+    (unlike-some g.border (function_of e.table e.result) c.args.numbers c.only_bound-bound.result c.requires.measured c.requires.less))
 
 pub returns : goal.returns
 returns c =
@@ -22,8 +22,10 @@ returns c =
     let want = nat_lt c.args.numbers.holding bound in
     let values = c.in_ok-values.values.items in
     let w : IsWitness g (function_of e.table e.result) want values =
-        subst (λ n. IsWitness g (function_of e.table n) want values) c.root_of-root.ensures.value
-          (subst (λ d. IsWitness g (function_of d c.root_of-root.result) want values) c.diagrams-d.ensures.value c.in_ok-values.ensures) in
-    (c.requires.narrow, c.only_bound-bound.ensures,
+    subst (λ n. IsWitness g (function_of e.table n) want values) c.root_of-root.ensures.value
+    (subst (λ d. IsWitness g (function_of d c.root_of-root.result) want values) c.diagrams-d.ensures.value c.in_ok-values.ensures) in (
+      c.requires.narrow,
+      c.only_bound-bound.ensures,
       subst (DiffersAt g bound) (sym (c.in_ok-assignment_of.ensures ∙ c.deref.ensures.value))
-        (differs-by g (function_of e.table e.result) c.args.numbers bound want values c.requires.elimination.meaning c.requires.measured c.requires.less (λ i. want) w))
+          (differs-by g (function_of e.table e.result) c.args.numbers bound want values c.requires.elimination.meaning c.requires.measured c.requires.less (λ i. want) w),
+    )

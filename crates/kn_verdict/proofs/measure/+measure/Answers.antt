@@ -11,7 +11,7 @@ returns-in_default-clause-measured t c =
     let d = c.args.d.now in
     let node = c.args.node in
     subst (AreFewest g.border (function_of d node)) (sym (c.of_constant.ensures ∙ (λ i. constant_of (length (c.border.ensures.value i)) (c.eq.ensures i))))
-      (measured-constant g d node c.border.ensures.group c.requires.node.table (ltb-true node 2 (sym c.in_default.ensures.constant)))
+    (measured-constant g d node c.border.ensures.group c.requires.node.table (ltb-true node 2 (sym c.in_default.ensures.constant)))
 
 pub returns-in-Some-get-clause-measured : goal.returns-in-Some-get-clause-measured
 returns-in-Some-get-clause-measured t c =
@@ -30,9 +30,9 @@ returns-clause-measured t c =
     let b = c.in-Some.ensures.branch in
     let (there, own) = node-literal g d c.args.node p.0 p.1 p.2 c.place_of.result l c.border-2.result.now b c.place_of.ensures c.border-2.ensures.value c.index-border-place_of.is in
     subst (AreFewest g.border (function_of d c.args.node)) (sym c.joined-numbers.ensures)
-      (measured-branch g d c.args.node p.0 p.1 p.2 l c.in_ok-high.high c.in_ok-low.low c.border-2.ensures.group c.requires.node.table b there own c.in_ok-high.ensures.measured c.in_ok-low.ensures.measured)
+    (measured-branch g d c.args.node p.0 p.1 p.2 l c.in_ok-high.high c.in_ok-low.low c.border-2.ensures.group c.requires.node.table b there own c.in_ok-high.ensures.measured c.in_ok-low.ensures.measured)
 
 pub returns-clause-noted : goal.returns-clause-noted
 returns-clause-noted t c =
     noted-measured c.args.group.now c.args.d.now c.measure-2.new.noted c.note.new.noted c.args.node c.joined-numbers.result c.in_ok-low.ensures.noted
-      (returns-clause-measured t c) c.in_ok-note.ensures.ok
+    (returns-clause-measured t c) c.in_ok-note.ensures.ok

@@ -24,7 +24,7 @@ loop-parts-preserved c =
       node = border-half g d node p.0 p.1 p.2 c.half-at.result value c.loop-parts.invariant.node b half_is;
       same = λ v e.
           half-function d node p.0 p.1 p.2 c.half-at.result value v b half_is
-            (ap v (sym own) ∙ value-first v g.border c.args.first place l e (place-within g place _ c.place_of-place.ensures) (subst (λ ls. l ≡ get_or ls place l) c.border.ensures.value c.index-border-place.is))
+          (ap v (sym own) ∙ value-first v g.border c.args.first place l e (place-within g place _ c.place_of-place.ensures) (subst (λ ls. l ≡ get_or ls place l) c.border.ensures.value c.index-border-place.is))
           ∙ c.loop-parts.invariant.same v e;
     }
 
