@@ -1,19 +1,18 @@
 #!/usr/bin/env python3
 """`knf` beside other solvers that are installed (cadical, minisat, clasp, cryptominisat5), on growing formulas of a few
 families, in one run. Each answer is checked: models are evaluated, and proofs of `knf` are given to `knf check`. The others
-get the clauses that `knf convert` writes. It prints a table, and writes two plots where a folder is named.
+get the clauses that `knf convert` writes. Seconds are those of the processor. It prints a table, and writes plots where a
+folder is named.
 
     compare.py [--limit SECONDS] [--small] [--plots FOLDER]"""
 
 import argparse
 import os
-import shutil
-import subprocess
-import time
 
 import families
 import plot
-from measure import PROGRAM, temporary
+import solvers
+from measure import temporary
 
 FAMILIES = {
     "random 3-SAT": (families.three_sat, [50, 75, 100, 125, 150, 175, 200]),
@@ -24,72 +23,22 @@ FAMILIES = {
 SMALL = {"random 3-SAT": [20, 30, 40], "pigeons": [3, 4, 5], "grids": [3, 6], "blocks": [1, 5, 20]}
 
 
-def others():
-    """The other solvers that are installed, each with the words behind its name."""
-    known = {
-        "cadical": lambda f: ["-q", f],
-        "minisat": lambda f: ["-verb=0", f, f + ".out"],
-        "clasp": lambda f: ["--verbose=0", f],
-        "cryptominisat5": lambda f: ["--verb", "0", f],
-    }
-    return {name: words for name, words in known.items() if shutil.which(name)}
-
-
-def timed(words, folder, limit):
-    """The status, the output and the seconds of a run; no status where it was stopped."""
-    begun = time.monotonic()
-    try:
-        done = subprocess.run(words, cwd=folder, stdout=subprocess.PIPE, stderr=subprocess.DEVNULL, timeout=limit, check=False)
-    except subprocess.TimeoutExpired:
-        return None, "", limit
-    return done.returncode, done.stdout.decode("ascii", "replace"), time.monotonic() - begun
-
-
-def literals(said):
-    return [int(w) for line in said.splitlines() if line.startswith("v") for w in line.split()[1:] if w != "0"]
-
-
-def own(formula, name, folder, limit):
-    """The answer of `knf` on a file, checked; its seconds, and those of checking the proof."""
-    status, said, seconds = timed([PROGRAM, "solve", name, "proof.kpf"], folder, limit)
-    if status == 10 and not families.satisfies(formula, literals(said)):
-        raise SystemExit(f"{name}: knf printed no model")
-    checking = None
-    if status == 20:
-        verdict, _, checking = timed([PROGRAM, "check", name, "proof.kpf"], folder, None)
-        if verdict != 0:
-            raise SystemExit(f"{name}: the proof of knf was not accepted")
-    return status if status in (10, 20) else None, seconds, checking
-
-
-def other(formula, program, words, folder, limit):
-    """The answer of another solver on the clauses, its model evaluated on the formula's own variables."""
-    status, said, seconds = timed([program, *words("f.cnf")], folder, limit)
-    if program == "minisat" and status == 10:
-        with open(os.path.join(folder, "f.cnf.out"), encoding="ascii") as file:
-            said = "v " + file.read().split("\n", 1)[1]
-    if status == 10 and not families.satisfies(formula, [lit for lit in literals(said) if abs(lit) <= formula[0]]):
-        raise SystemExit(f"{program} printed no model")
-    return status if status in (10, 20) else None, seconds, None
-
-
 def measure(formula, folder, limit):
-    """What each solver did with a formula: its name, status, seconds, and seconds of checking."""
-    for name, content in (("f.knf", families.text(formula)),):
-        with open(os.path.join(folder, name), "w", encoding="ascii") as file:
-            file.write(content)
-    _, clauses, _ = timed([PROGRAM, "convert", "f.knf"], folder, None)
-    with open(os.path.join(folder, "f.cnf"), "w", encoding="ascii") as file:
-        file.write(clauses)
-    rows = [("knf, klauses", *own(formula, "f.knf", folder, limit)), ("knf, clauses", *own(formula, "f.cnf", folder, limit))]
-    rows += [(name, *other(formula, name, words, folder, limit)) for name, words in others().items()]
-    agree({status for _, status, _, _ in rows if status})
+    """What each solver did with a formula: its name, answer, seconds, and seconds of checking."""
+    solvers.put("f.knf", families.text(formula), folder)
+    made = solvers.convert(formula, "f.knf", "f.cnf", folder)
+    rows = [own(formula, "knf, klauses", "f.knf", folder, limit), own(made, "knf, clauses", "f.cnf", folder, limit)]
+    for program in solvers.installed():
+        run = solvers.other(formula, program, "f.cnf", folder, limit)
+        rows.append((program, run.answer, run.seconds, None))
+    if len({answer for _, answer, _, _ in rows if answer}) > 1:
+        raise SystemExit("two solvers gave different answers")
     return rows
 
 
-def agree(statuses):
-    if len(statuses) > 1:
-        raise SystemExit("two solvers gave different answers")
+def own(formula, name, file, folder, limit):
+    run, proof = solvers.own(formula, file, folder, limit)
+    return name, run.answer or None, run.seconds, proof.checking
 
 
 def cactus(results):

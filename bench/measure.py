@@ -2,7 +2,9 @@
 system for it, so that other work on the machine changes them little. The environment variable `KNF` names
 another program to measure."""
 
+import math
 import os
+import resource
 import subprocess
 import sys
 import tempfile
@@ -13,13 +15,25 @@ PROGRAM = os.path.abspath(os.environ.get("KNF", BUILT))
 
 def run(words, folder):
     """The status, the text on standard output, the seconds and the peak memory in bytes of one run."""
+    return spend([PROGRAM, *words], folder)
+
+
+def spend(words, folder, limit=None, errors=None):
+    """The same of any program, which is stopped once it has taken so many seconds of the processor."""
     with open(os.path.join(folder, "out.txt"), "wb") as out:
-        child = subprocess.Popen([PROGRAM, *words], stdout=out, cwd=folder)
+        child = subprocess.Popen(words, stdout=out, stderr=errors, cwd=folder, preexec_fn=lambda: stop_after(limit))
         _, status, usage = os.wait4(child.pid, 0)
         child.returncode = os.waitstatus_to_exitcode(status)
     with open(os.path.join(folder, "out.txt"), "rb") as out:
         text = out.read()
     return child.returncode, text, usage.ru_utime + usage.ru_stime, usage.ru_maxrss * 1024
+
+
+def stop_after(limit):
+    """Bounds the seconds of the processor of this process, in whole seconds; where it is stopped, no core is written."""
+    if limit is not None:
+        resource.setrlimit(resource.RLIMIT_CORE, (0, 0))
+        resource.setrlimit(resource.RLIMIT_CPU, (math.ceil(limit), math.ceil(limit) + 1))
 
 
 def startup(folder):
@@ -89,3 +103,10 @@ def expect(name, status, text, want):
 def temporary():
     """A temporary folder, removed at the end."""
     return tempfile.TemporaryDirectory(prefix="knf-bench-")
+
+
+def asks(words, folder):
+    """Ends the script where the program does not know the first of these words: it answers the usage line."""
+    status, text, _, _ = run(words, folder)
+    if status == 2 and text.startswith(b"c usage"):
+        sys.exit(f"this program has no command `{words[0]}`")
