@@ -56,6 +56,14 @@ def planted(variables, ratio, seed=1):
     return variables, [held() for _ in range(round(ratio * variables))]
 
 
+def twos_and_threes(variables, twos, threes, seed=1):
+    """Random clauses of two literals and of three."""
+    draw = random.Random(f"{variables} {twos} {threes} {seed}")
+    sizes = [2] * twos + [3] * threes
+    draw.shuffle(sizes)
+    return variables, [clause(signed(draw, draw.sample(range(1, variables + 1), size))) for size in sizes]
+
+
 def mixed(variables, count, seed=1):
     """Random clauses, klauses and guarded klauses of up to eight literals, with any bound that can hold."""
     draw = random.Random(f"{variables} {count} {seed}")
@@ -130,10 +138,10 @@ def one_clause(variables):
     return variables, [clause(list(range(1, variables + 1)))]
 
 
-def counts(literals, bound, copies):
-    """The same klause over so many lists of other variables."""
+def counts(literals, most, copies):
+    """At most so many of each of several lists of other variables."""
     lists = [list(range(c * literals + 1, (c + 1) * literals + 1)) for c in range(copies)]
-    return copies * literals, [at_least(bound, lits) for lits in lists]
+    return copies * literals, [at_most(most, lits) for lits in lists]
 
 
 def at_most_one(literals):
