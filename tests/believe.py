@@ -14,7 +14,7 @@ import os
 import re
 import sys
 
-from definitions import CLOSING, OPENING, PIECE, Book, Definition, Module, Type
+from definitions import CLOSING, OPENING, PIECE, Book, Module, Type
 from knfcheck import TOP
 
 PAGE = os.path.join(TOP, "docs", "PROMISES.md")
@@ -338,7 +338,7 @@ def main(arguments):
     contract = Contract()
     if arguments[:1] == ["--list"]:
         for row in rows(contract):
-            if all(word in " ".join(row.cells) for word in arguments[1:]):
+            if set(arguments[1:]) <= set(re.findall(r"\w+", " ".join(row.cells))):
                 print("\n".join(row.listed()))
         return 0
     made, page = table(contract), read(PAGE)
