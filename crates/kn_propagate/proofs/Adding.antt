@@ -38,7 +38,7 @@ stays_in chain e k j x false q i = i
 put_in : (chain : ℕ → List ℕ) (e k : ℕ) → is_in e (with_chain chain k (e ∷ chain k) k) ≡ true
 put_in chain e k = subst (λ (xs : List ℕ). is_in e xs ≡ true) (sym (cond-true (eqb k k) (e ∷ chain k) (chain k) (eq-eqb k k refl))) (or_left (eqb e e) _ (eq-eqb e e refl))
 
-still_watched : (ws new : List Watching) (s x : Spot) → Gains ws new s → (at_slot ws x.owner).watches x.place ≡ true → (at_slot new x.owner).watches x.place ≡ true
+pub still_watched : (ws new : List Watching) (s x : Spot) → Gains ws new s → (at_slot ws x.owner).watches x.place ≡ true → (at_slot new x.owner).watches x.place ≡ true
 still_watched ws new s x g w = elim (cases_eq x.owner s.owner) [
   | inr o ↦ subst (λ (z : Watching). z.watches x.place ≡ true) (sym (g.others x.owner o)) w
   | inl o ↦ (
@@ -173,6 +173,12 @@ pub record Agrees (ws new : List Watching) : Type 0 where
       (slot < length new) × (place < length (listed (at_slot new slot).c)) × ((at_slot new slot).watches place ≡ true) × (lit_at (listed (at_slot new slot).c) place ≡ lit_at (listed (at_slot ws slot).c) place)
   pub back : (slot place : ℕ) → slot < length new → place < length (listed (at_slot new slot).c) → (at_slot new slot).watches place ≡ true →
       (slot < length ws) × (place < length (listed (at_slot ws slot).c)) × ((at_slot ws slot).watches place ≡ true)
+
+pub agrees_back : (ws new : List Watching) → Agrees ws new → Agrees new ws
+agrees_back ws new a = record {
+  to = λ slot place sl pl w. (let b = a.back slot place sl pl w in (b.0, b.1, b.2, sym (a.to slot place b.0 b.1 b.2).3));
+  back = λ slot place sl pl w. (let b = a.to slot place sl pl w in (b.0, b.1, b.2));
+}
 
 pub still_agrees : (ws new : List Watching) (c : Chained) → Agrees ws new → IsStill ws c → IsStill new c
 still_agrees ws new c a w =
@@ -333,6 +339,9 @@ and_no : (b : Bool) → (b && false) ≡ false
 and_no true = refl
 and_no false = refl
 
+pub cut_taken : (ws : List Watching) (slot k : ℕ) → slot < length ws → (at_slot ws slot).watches k ≡ true → (at_slot (cut ws slot (k + 1)) slot).watches k ≡ true
+cut_taken ws slot k lt w = ap (λ (x : Watching). x.watches k) (at_cut ws slot (k + 1) lt) ∙ and_from ((at_slot ws slot).watches k) _ w (lt-ltb k (k + 1) (omega arith))
+
 pub cut_gains : (ws : List Watching) (slot k : ℕ) → slot < length ws → k < length (listed (at_slot ws slot).c) → (at_slot ws slot).watches k ≡ true → Gains (cut ws slot k) (cut ws slot (k + 1)) (a_spot slot k)
 cut_gains ws slot k lt kl w =
     let a = at_cut ws slot k lt in
@@ -343,7 +352,7 @@ cut_gains ws slot k lt kl w =
       same = λ x. c_cut ws slot (k + 1) x lt ∙ sym (c_cut ws slot k x lt);
       others = λ x d. off_cut ws slot (k + 1) x d ∙ sym (off_cut ws slot k x d);
       within = subst (λ (c : Bounded). k < length (listed c)) (sym (c_cut ws slot k slot lt)) kl;
-      taken = ap (λ (x : Watching). x.watches k) b ∙ and_from ((at_slot ws slot).watches k) _ w (lt-ltb k (k + 1) (omega arith));
+      taken = cut_taken ws slot k lt w;
       fresh = ap (λ (x : Watching). x.watches k) a ∙ ap (λ (t : Bool). (at_slot ws slot).watches k && t) (le-ltb k k (omega arith)) ∙ and_no _;
       rest = λ p d. ap (λ (x : Watching). x.watches p) b ∙ more_lt ((at_slot ws slot).watches p) p k d ∙ sym (ap (λ (x : Watching). x.watches p) a);
     }

@@ -1,7 +1,7 @@
 -- The table of entries, where one field of one entry is changed.
 use Rattle.std.proofs.Common.{◌≡◌, ℕ, ◌<◌, ◌++◌, List, [], ◌∷◌, map, length, refl, sym, ap, ◌∙◌, arith}
 use Rattle.std.specs.Prelude.{slice_index_or, slice_set}
-use Rattle.std.proofs.lemmas.List.{map-set, map-append}
+use Rattle.std.proofs.lemmas.List.{get_or-map, map-set, map-append}
 use Rattle.std.proofs.Math.Seq.{map-set_same}
 use Rattle.kn_propagate.specs.declared.chains.Spot.{Spot}
 use Rattle.kn_propagate.specs.declared.chains.Entry.{Entry}
@@ -37,3 +37,9 @@ next_push entries x nexts e = map-append (λ (z : Entry). z.next) entries (x ∷
 
 pub spot_push : (entries : List Entry) (x : Entry) (spots : List Spot) → spots_of entries ≡ spots → spots_of (entries ++ x ∷ []) ≡ spots ++ x.spot ∷ []
 spot_push entries x spots e = map-append (λ (z : Entry). z.spot) entries (x ∷ []) ∙ ap (λ (xs : List Spot). xs ++ x.spot ∷ []) e
+
+pub next_read : (entries : List Entry) (i : ℕ) (x : Entry) (nexts : List ℕ) → nexts_of entries ≡ nexts → i < length entries → x ≡ slice_index_or entries i x → x.next ≡ slice_index_or nexts i 0
+next_read entries i x nexts e lt is = ap (λ (z : Entry). z.next) is ∙ sym (get_or-map (λ (z : Entry). z.next) entries i x 0 lt) ∙ ap (λ (z : List ℕ). slice_index_or z i 0) e
+
+pub spot_read : (entries : List Entry) (i : ℕ) (x : Entry) (spots : List Spot) → spots_of entries ≡ spots → i < length entries → x ≡ slice_index_or entries i x → x.spot ≡ slice_index_or spots i (record { owner = 0; place = 0 })
+spot_read entries i x spots e lt is = ap (λ (z : Entry). z.spot) is ∙ sym (get_or-map (λ (z : Entry). z.spot) entries i x (record { owner = 0; place = 0 }) lt) ∙ ap (λ (z : List Spot). slice_index_or z i (record { owner = 0; place = 0 })) e

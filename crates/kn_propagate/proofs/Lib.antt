@@ -9,6 +9,7 @@ pub mod Walks
 pub mod Reasons
 pub mod Lifting
 pub mod Adding
+pub mod Releasing
 pub mod Handing
 pub mod Empty
 pub mod Founding

@@ -7,6 +7,7 @@ use Rattle.kn_logic.specs.Constraints.{Bounded, IsWithin, klause}
 use Rattle.kn_logic.specs.Propagation.{is_open, open_places, Forces}
 use Rattle.kn_watch.specs.declared.trail.Made.{Made}
 use Rattle.kn_propagate.specs.declared.chains.Spot.{Spot}
+use Rattle.kn_propagate.specs.declared.chains.Found.{Found}
 use Rattle.kn_propagate.specs.declared.slot.Slot.{Slot}
 use Rattle.kn_propagate.specs.declared.slot.Held.{Held}
 use Rattle.kn_propagate.specs.declared.slot.Held.TheVariants.{Clause, Klause, Free}
@@ -268,3 +269,40 @@ cut_of w k = record { id = w.id; c = w.c; watches = λ place. w.watches place &&
 
 abbrev pub cut : List Watching → ℕ → ℕ → List Watching
 cut ws slot k = slice_set ws slot (cut_of (at_slot ws slot) k)
+
+-- the entry of this spot stands in the chain
+abbrev pub StandsIn : Chained → ℕ → Spot → Type 0
+StandsIn chains k spot =
+    (chain : List ℕ) × (e : ℕ) × IsChain chains.nexts (slice_index_or chains.heads k 0) chain × (is_in e chain ≡ true) × (spot_at chains.spots e ≡ spot)
+
+-- the last of a list
+abbrev pub EndsWith : List ℕ → Option ℕ → Type 0
+EndsWith front None = front ≡ []
+EndsWith front (Some e) = (rest : List ℕ) × (front ≡ rest ++ e ∷ [])
+
+-- An entry of this spot, with what stands before and behind it in the chain.
+pub record IsFound (chains : Chained) (k : ℕ) (spot : Spot) (found : Found) : Type 0 where
+  pub front : List ℕ
+  pub back : List ℕ
+  pub chain : IsChain chains.nexts (slice_index_or chains.heads k 0) (front ++ found.entry ∷ back)
+  pub last : EndsWith front found.before
+  pub here : spot_at chains.spots found.entry ≡ spot
+
+-- the tables with an entry left out of its chain, where it is the first, or stands behind another
+abbrev pub heads_without : Chained → ℕ → Option ℕ → ℕ → List ℕ
+heads_without chains k None e = slice_set chains.heads k (slice_index_or chains.nexts e 0)
+heads_without chains k (Some before) e = chains.heads
+
+abbrev pub nexts_without : Chained → Option ℕ → ℕ → List ℕ
+nexts_without chains None e = chains.nexts
+nexts_without chains (Some before) e = slice_set chains.nexts before (slice_index_or chains.nexts e 0)
+
+-- The entry of the spot was taken out of the chain, and stands in front of those that are not used.
+pub record IsReleased (old new : Chained) (k : ℕ) (spot : Spot) : Type 0 where
+  pub found : Found
+  pub is : IsFound old k spot found
+  pub nexts : new.nexts ≡ slice_set (nexts_without old found.before found.entry) found.entry old.spare
+  pub heads : new.heads ≡ heads_without old k found.before found.entry
+  pub spots : new.spots ≡ slice_set old.spots found.entry (record { owner = nobody; place = 0 })
+  pub spare : new.spare ≡ found.entry + 1
+  pub room : new.room ≡ old.room
