@@ -15,9 +15,6 @@ spots_of entries = map (λ e. e.spot) entries
 pub next_set : (entries : List Entry) (i : ℕ) (y : Entry) (nexts : List ℕ) (n : ℕ) → nexts_of entries ≡ nexts → y.next ≡ n → nexts_of (slice_set entries i y) ≡ slice_set nexts i n
 next_set entries i y nexts n e f = map-set (λ (x : Entry). x.next) entries i y ∙ ap (λ (xs : List ℕ). slice_set xs i y.next) e ∙ ap (slice_set nexts i) f
 
-pub next_kept : (entries : List Entry) (i : ℕ) (x y : Entry) (nexts : List ℕ) → nexts_of entries ≡ nexts → x ≡ slice_index_or entries i x → y.next ≡ x.next → nexts_of (slice_set entries i y) ≡ nexts
-next_kept entries i x y nexts e r f = map-set_same (λ (x : Entry). x.next) entries i y x (f ∙ ap (λ (x : Entry). x.next) r) ∙ e
-
 pub spot_set : (entries : List Entry) (i : ℕ) (y : Entry) (spots : List Spot) → spots_of entries ≡ spots → spots_of (slice_set entries i y) ≡ slice_set spots i y.spot
 spot_set entries i y spots e = map-set (λ (x : Entry). x.spot) entries i y ∙ ap (λ (xs : List Spot). slice_set xs i y.spot) e
 

@@ -10,6 +10,7 @@ pub mod Reasons
 pub mod Lifting
 pub mod Adding
 pub mod Releasing
+pub mod Changing
 pub mod Handing
 pub mod Empty
 pub mod Founding
@@ -18,3 +19,4 @@ pub mod Advancing
 pub mod Placing
 pub mod Engined
 pub mod Levels
+pub mod Removing

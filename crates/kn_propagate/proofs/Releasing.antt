@@ -1,19 +1,18 @@
 -- One watched place less: its entry leaves the chain of its literal, and is not used then.
-use Rattle.std.proofs.Common.{◌≡◌, ◌≢◌, ℕ, zero, suc, ◌+◌, ◌-◌, ◌*◌, ◌≤◌, ◌<◌, ◌⊎◌, ◌++◌, Bool, true, false, ◌||◌, cond, eqb, Option, Some, None, List, [], ◌∷◌, length, refl, sym, ap, ◌∙◌, subst, append_assoc, inl, inr, arith}
+use Rattle.std.proofs.Common.{◌≡◌, ◌≢◌, ℕ, ◌+◌, ◌-◌, ◌≤◌, ◌<◌, ◌⊎◌, ◌++◌, true, false, eqb, Option, Some, None, List, [], ◌∷◌, length, refl, sym, ap, ◌∙◌, subst, append_assoc, inl, inr, arith}
 use Rattle.std.specs.Prelude.{slice_index_or, slice_set, IfSome}
-use Rattle.std.proofs.lemmas.Bool.{or_cases, or_left, or_right, or_from, eqb-true, eq-eqb, ne_eqb, cases_eq, cond-true, cond-false, false_from_ne_true, cases_Bool}
+use Rattle.std.proofs.lemmas.Bool.{or_cases, or_left, or_right, or_from, eqb-true, eq-eqb, ne_eqb, cases_eq, cond-true, cond-false, false_from_ne_true}
 use Rattle.std.proofs.lemmas.List.{get_or-set_same, get_or-set_other}
 use Rattle.std.proofs.Math.ListN.{length-set}
 use Rattle.kn_logic.specs.Constraints.{Bounded}
 use Rattle.kn_propagate.specs.declared.chains.Spot.{Spot}
 use Rattle.kn_propagate.specs.declared.chains.Found.{Found}
 use Rattle.kn_watch.specs.Watches.{listed, lit_at}
-use Rattle.kn_propagate.specs.Chains.{Watching, Chained, at_slot, lit_of_spot, is_in, code, with_chain, spot_at, hand_of, nobody, IsChain, AreChains, AreLinked, IsWired, IsStill, AreSpare, AreWithin, StandsIn, EndsWith, IsFound, heads_without, nexts_without, IsReleased, count_from}
+use Rattle.kn_propagate.specs.Chains.{Watching, Chained, at_slot, lit_of_spot, is_in, code, with_chain, spot_at, hand_of, nobody, IsChain, AreChains, AreLinked, IsStill, AreSpare, StandsIn, EndsWith, IsFound, heads_without, nexts_without, IsReleased, count_from}
 use Rattle.kn_propagate.proofs.Laying.{chain_one, chain_kept, chain_short, count_is, first_once}
 use Rattle.kn_propagate.proofs.Steps.{chain_none}
-use Rattle.kn_propagate.proofs.Walks.{code_known, listed_known}
 use Rattle.kn_propagate.proofs.Relinking.{a_spot, spot_other, spot_here, not_in}
-use Rattle.kn_propagate.proofs.Adding.{Gains, still_watched, codes_of}
+use Rattle.kn_propagate.proofs.Adding.{Gains, still_watched}
 
 -- a list with one number left out
 in_less : (x e : ℕ) (front back : List ℕ) → is_in x (front ++ back) ≡ true → is_in x (front ++ e ∷ back) ≡ true
@@ -283,9 +282,6 @@ pub record IsSought (c : Chained) (k : ℕ) (s : Spot) (before : Option ℕ) (li
   pub entry : ℕ
   pub stands : is_in entry rest ≡ true
   pub at : spot_at c.spots entry ≡ s
-
-pub sought_first : (c : Chained) (k : ℕ) (s : Spot) → StandsIn c k s → IsSought c k s None (slice_index_or c.heads k 0)
-sought_first c k s h = record { front = []; rest = h.0; chain = h.2; here = h.2; last = refl; entry = h.1; stands = h.3; at = h.4 }
 
 -- the entry at which the search is
 parts : (nexts : List ℕ) (link : ℕ) (rest : List ℕ) (e : ℕ) → IsChain nexts link rest → is_in e rest ≡ true → (x : ℕ) × (more : List ℕ) × (rest ≡ x ∷ more) × (link ≡ x + 1) × (x < length nexts) × IsChain nexts (slice_index_or nexts x 0) more

@@ -1,8 +1,8 @@
 -- The engine's own definitions: constraints as they are watched, the chains of their entries, and what keeps
 -- each constraint quiet while literals are visited.
 use Rattle.std.specs.Prelude.{ℕ, zero, suc, ◌≡◌, ◌≢◌, ◌≤◌, ◌<◌, ◌+◌, ◌*◌, ◌-◌, ◌⊎◌, ◌++◌, ◌∷◌, ◌==◌, ◌&&◌, nat_lt, Bool, true, false, if◌then◌else◌, List, [], length, map, take, slice_get, slice_index_or, slice_set, Option, Some, None}
-use Rattle.std.specs.List.{list_any, AllByRecursion}
-use Rattle.kn_logic.specs.Literals.{Literal, negated, has}
+use Rattle.std.specs.List.{list_any}
+use Rattle.kn_logic.specs.Literals.{Literal, has}
 use Rattle.kn_logic.specs.Constraints.{Bounded, IsWithin, klause}
 use Rattle.kn_logic.specs.Propagation.{is_open, open_places, Forces}
 use Rattle.kn_watch.specs.declared.trail.Made.{Made}
@@ -16,7 +16,7 @@ use Rattle.kn_watch.specs.declared.watched.Visit.TheVariants as turned
 use Rattle.kn_propagate.specs.declared.visiting.Effect.{Effect}
 use Rattle.kn_propagate.specs.declared.visiting.Effect.TheVariants.{Stays, Moved, Conflict}
 use Rattle.kn_watch.specs.Trails.{Trailed, literals, below, IsTrail, Grows}
-use Rattle.kn_watch.specs.Watches.{listed, lit_at, NoneFalse, IsSettled, IsSatisfied, IsConflicting, IsForced, IsForcing, HasWatches, IsBroad, QuietLaw, IsMoved}
+use Rattle.kn_watch.specs.Watches.{listed, lit_at, NoneFalse, IsSettled, IsSatisfied, IsConflicting, IsForcing, HasWatches}
 
 -- a constraint as it is watched, with its id; none in a slot that is free
 pub record Watching : Type 0 where
@@ -46,8 +46,12 @@ held_watches clauses klauses (Clause c) = clauses c
 held_watches clauses klauses (Klause k) = klauses k
 held_watches clauses klauses (Free next) = unwatched
 
+-- what a free slot is seen as
+abbrev pub vacancy : Watching
+vacancy = record { id = None; c = nothing; watches = unwatched }
+
 abbrev pub at_slot : List Watching → ℕ → Watching
-at_slot ws slot = slice_index_or ws slot (record { id = None; c = nothing; watches = unwatched })
+at_slot ws slot = slice_index_or ws slot vacancy
 
 -- the literal at a place of a slot
 abbrev pub lit_of_spot : List Watching → Spot → Literal

@@ -1,4 +1,4 @@
-use Rattle.std.proofs.Common.{◌≡◌, ◌<◌, ◌≤◌, ◌+◌, ℕ, List, length, sym, ap, ◌∙◌, arith}
+use Rattle.std.proofs.Common.{◌≡◌, ℕ, List, length, sym, ap, ◌∙◌, arith}
 use Rattle.kn_logic.specs.Literals.{Literal}
 use Rattle.kn_watch.specs.Watches.{listed}
 use Rattle.kn_propagate.specs.Chains.{Watching, seen_as, at_slot, cut}

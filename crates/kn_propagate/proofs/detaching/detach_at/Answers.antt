@@ -1,11 +1,11 @@
-use Rattle.std.proofs.Common.{◌≡◌, ◌*◌, ◌+◌, ◌-◌, ℕ, Bool, true, false, not, ◌≤◌, ◌<◌, List, length, refl, sym, ap, ◌∙◌, subst, arith}
+use Rattle.std.proofs.Common.{◌≡◌, ◌+◌, ℕ, true, ◌<◌, length, sym, ap, ◌∙◌, subst, arith}
 use Rattle.kn_logic.specs.Constraints.{Bounded}
 use Rattle.kn_watch.specs.Watches.{listed, lit_at}
-use Rattle.kn_propagate.specs.Chains.{Watching, seen_as, at_slot, code, lit_of_spot, cut, hand_of, nobody, IsStill}
+use Rattle.kn_propagate.specs.Chains.{Watching, seen_as, at_slot, code, cut}
 use Rattle.kn_propagate.proofs.Relinking.{a_spot}
 use Rattle.kn_propagate.proofs.Turning.{length-seen, seen_here}
 use Rattle.kn_propagate.proofs.Walks.{code_known, listed_known}
-use Rattle.kn_propagate.proofs.Adding.{cut_gains, cut_skips, cut_taken, within_cut, length-cut, c_cut, agrees_back, still_agrees}
+use Rattle.kn_propagate.proofs.Adding.{cut_gains, cut_taken, length-cut, c_cut}
 use Rattle.kn_propagate.proofs.Releasing.{still_releases, spare_releases, stands_in}
 use Rattle.kn_propagate.proofs.detaching.detach_at.Goals as goal
 

@@ -1,11 +1,9 @@
-use Rattle.std.proofs.Common.{◌≡◌, ◌≢◌, ◌+◌, ◌-◌, ◌<◌, ◌≤◌, ℕ, List, length, refl, sym, ap, ◌∙◌, arith}
+use Rattle.std.proofs.Common.{◌≡◌, ◌+◌, ◌-◌, ℕ, length, sym, ap, ◌∙◌, arith}
 use Rattle.std.specs.Prelude.{slice_index_or}
 use Rattle.std.proofs.lemmas.Grind.{common_steps}
-use Rattle.kn_propagate.specs.declared.chains.Spot.{Spot}
-use Rattle.kn_propagate.specs.declared.chains.Entry.{Entry}
 use Rattle.kn_propagate.specs.Chains.{Chained, spot_at}
 use Rattle.kn_propagate.proofs.Entries.{even_of, long_of, next_read, spot_read}
-use Rattle.kn_propagate.proofs.Releasing.{IsSought, sought_some, sought_inside, sought_found, sought_next, sought_less}
+use Rattle.kn_propagate.proofs.Releasing.{sought_some, sought_inside, sought_found, sought_next, sought_less}
 use Rattle.kn_propagate.proofs.chains.Chains.find.Goals as goal
 
 pub index-at-requires : goal.index-at-requires

@@ -1,4 +1,4 @@
-use Rattle.std.proofs.Common.{ℕ, length}
+use Rattle.std.proofs.Common.{length}
 use Rattle.kn_propagate.specs.Chains.{count_from}
 use Rattle.kn_propagate.proofs.Releasing.{IsSought}
 use Rattle.kn_propagate.proofs.chains.Chains.find.Given as goal

@@ -1,4 +1,4 @@
-use Rattle.std.proofs.Common.{◌≡◌, ◌<◌, length, ap, ◌∙◌, arith, List, ℕ}
+use Rattle.std.proofs.Common.{length, ap, arith, List, ℕ}
 use Rattle.kn_propagate.proofs.Releasing.{found_inside, before_inside, long_nexts}
 use Rattle.kn_propagate.proofs.chains.Chains.release.Goals as goal
 

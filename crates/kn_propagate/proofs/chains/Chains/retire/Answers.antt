@@ -1,5 +1,4 @@
-use Rattle.std.proofs.Common.{◌≡◌, ap, ◌∙◌}
-use Rattle.std.specs.Prelude.{slice_set}
+use Rattle.std.proofs.Common.{ap}
 use Rattle.kn_propagate.specs.Chains.{Chained}
 use Rattle.kn_propagate.proofs.Entries.{next_set, spot_set}
 use Rattle.kn_propagate.proofs.Relinking.{a_spot}

@@ -1,5 +1,5 @@
-use Rattle.std.proofs.Common.{◌≡◌, ◌<◌, ℕ, Option, Some, length, refl, sym, ap, ◌∙◌, subst, arith}
-use Rattle.std.specs.Prelude.{slice_index_or, IfSome}
+use Rattle.std.proofs.Common.{◌≡◌, ℕ, Option, length, refl, sym, ap, ◌∙◌, arith}
+use Rattle.std.specs.Prelude.{slice_index_or}
 use Rattle.kn_propagate.specs.Chains.{Chained, nexts_without}
 use Rattle.kn_propagate.proofs.Entries.{even_of, long_of, next_read, next_set, spot_kept}
 use Rattle.kn_propagate.proofs.chains.Chains.unlink.Goals as goal
