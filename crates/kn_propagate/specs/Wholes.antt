@@ -61,7 +61,7 @@ IsGuarded t pending slot w = IsBroad w.c ⊎ (IsSatisfied (literals (below 1 t.m
 
 -- what the tables keep, slot by slot
 pub record IsTabled (t : Trailed) (ws : List Watching) (chains : Chained) (visited : ℕ) (pending : List ℕ) : Type 0 where
-  pub small : t.vars < 2 ^ 32
+  pub small : 2 * t.vars + 3 < 2 ^ 64
   pub sized : length chains.heads ≡ 2 * t.vars + 3
   pub visited_ : visited ≤ length t.made
   pub few : length ws ≤ nobody

@@ -4,7 +4,7 @@ ghost use Rattle.kn_propagate.specs.Chains.{code, spot_at, nobody, IsDrawn, AreS
 
 use crate::NoMemory;
 use kn_logic::Lit;
-use std::alloc::Global;
+use std::alloc::{AllocError, Global};
 use std::marker::Model;
 
 /// A place of the constraint in a slot.
@@ -48,12 +48,14 @@ impl Model for Chains {
 }
 
 impl Chains {
-    /// No entry, and for each literal over so many variables an empty chain.
+    /// No entry, and for each literal over so many variables an empty chain. An error where memory is wanting.
     pub fn new(alloc: Global, vars: u64) -> Result<Chains, NoMemory>
-        requires { vars < 2 ^ 32 }
-        ensures { IfOk result (λ c. c ≡ record { spots = []; nexts = []; heads = replicate (2 * vars + 3) 0; spare = 0; room = 0 }) }
+        ensures small { IfOk result (λ c. 2 * vars + 3 < 2 ^ 64) }
+        ensures value { IfOk result (λ c. c ≡ record { spots = []; nexts = []; heads = replicate (2 * vars + 3) 0; spare = 0; room = 0 }) }
     {
-        let count = 2 * vars as usize + 3;
+        let Some(count) = count_of(vars) else {
+            return Err(AllocError);
+        };
         Ok(Chains {
             entries: Vec::new(alloc),
             heads: vec![in alloc; 0; count]?,
@@ -237,6 +239,13 @@ impl Chains {
         self.heads[hand] = self.heads[from];
         self.heads[from] = 0;
     }
+}
+
+// how many chains there are over so many variables: two of each, two that stay empty, and the hand
+fn count_of(vars: u64) -> Option<usize>
+    ensures { IfSome result (λ count. (count ≡ 2 * vars + 3) × (count < 2 ^ 64)) }
+{
+    (vars as usize).checked_mul(2)?.checked_add(3)
 }
 
 // whether two spots are one

@@ -53,9 +53,9 @@ impl<C: Watched, K: Watched> Model for Engine<C, K> {
 }
 
 impl<C: Watched, K: Watched> Engine<C, K> {
-    /// An engine over so many variables, without a constraint and without a literal, at level 0.
+    /// An engine over so many variables, without a constraint and without a literal, at level 0. An error where
+    /// memory is wanting.
     pub fn new(alloc: Global, vars: u64) -> Result<Engine<C, K>, NoMemory>
-        requires { vars < 2 ^ 32 }
         ensures { IfOk result (λ e. e ≡ record { trail = record { vars = vars; level = 0; made = [] }; live = []; last = None }) }
     {
         Ok(Engine {
