@@ -1,8 +1,7 @@
 ghost use Rattle.std.specs.Prelude.{◌≡◌, ◌≤◌, ◌<◌, ◌+◌, ◌++◌, ◌∷◌, ◌^◌, [], map, length, vec_capacity, IfOk, OnOk, OnErr, IsOk, Ok, Some, option_copied, option_map, slice_get};
-ghost use Rattle.std.specs.List.{AllByRecursion};
 ghost use Rattle.kn_rules.specs.States.{Defined, from_file, live_at};
 ghost use Rattle.kn_rules.specs.Steps.{deleted, by_definition, definition_clauses};
-ghost use Rattle.kn_rules.specs.Entries.{Deletes, IsSlotOf, variable_of, given_of, derived};
+ghost use Rattle.kn_rules.specs.Entries.{Deletes, variable_of, given_of, derived};
 ghost use Rattle.kn_rules.specs.Lent.{fours, kept_at};
 
 use crate::definitions::Definitions;

@@ -1,5 +1,4 @@
 ghost use Rattle.std.specs.Prelude.{◌≡◌, IfOk};
-ghost use Rattle.kn_rules.specs.Entries.{bounded_of, clause_at};
 ghost use Rattle.kn_rules.specs.Lent.{four_of, kept_at};
 
 use crate::Definition;
