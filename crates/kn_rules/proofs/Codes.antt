@@ -1,16 +1,16 @@
 -- A clause that is new for constraints has other literals than each clause among them; so there are less than
 -- 3 to the power V of them over V variables.
-use Rattle.std.proofs.Common.{◌≡◌, ℕ, zero, suc, ◌+◌, ◌*◌, ◌^◌, ◌≤◌, ◌<◌, ◌⊎◌, ◌++◌, ◌||◌, ◌&&◌, ◌==◌, if◌then◌else◌, Bool, true, false, not, cond, eqb, ltb, List, [], ◌∷◌, map, length, Option, None, Some, refl, sym, ap, ◌∙◌, subst, inl, inr, arith}
+use Rattle.std.proofs.Common.{◌≡◌, ℕ, zero, suc, ◌+◌, ◌*◌, ◌^◌, ◌≤◌, ◌<◌, ◌⊎◌, ◌++◌, ◌&&◌, ◌==◌, if◌then◌else◌, Bool, true, false, not, cond, eqb, List, [], ◌∷◌, map, length, Some, refl, sym, ap, subst, inl, inr, arith}
 use Rattle.std.specs.List.{AllByRecursion, IsDistinct, list_any, slice_get}
 use Rattle.std.proofs.Math.Nat.{pow-suc}
-use Rattle.std.proofs.lemmas.Bool.{and_parts, or_parts, or_cases, or_left, or_right, eqb-true, eq-eqb, ne_eqb, cases_Bool, cases_eq, not_from_false}
+use Rattle.std.proofs.lemmas.Bool.{and_parts, or_parts, or_cases, or_left, or_right, eqb-true, eq-eqb, ne_eqb, cases_Bool, cases_eq}
 use Rattle.std.proofs.lemmas.Map.Steps.{length-le_from_distinct_below}
 use Rattle.std.proofs.lemmas.Option.{same_Some}
 use Rattle.kn_logic.specs.Literals.{Literal, negated, is_same, has, names, places, IsKnown, AreKnown, AreDifferent}
 use Rattle.kn_logic.specs.Constraints.{Bounded, clause}
-use Rattle.kn_logic.specs.Propagation.{is_open, open_places, has_unset, IsShort, IsClosed}
+use Rattle.kn_logic.specs.Propagation.{is_open, open_places, has_unset, IsShort}
 use Rattle.kn_logic.specs.Newness.{IsNewBy, IsNew}
-use Rattle.kn_logic.proofs.Public.{same_literal, same-refl, has-first, All-has}
+use Rattle.kn_logic.proofs.Public.{same_literal, has-first, All-has}
 
 -- Clauses as numbers in base 3: a digit for each variable, which says whether the clause has it, and how.
 abbrev pub digit : List Literal → ℕ → ℕ

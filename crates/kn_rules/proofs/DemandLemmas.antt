@@ -1,10 +1,10 @@
 -- What it takes that all demands of a level stand.
-use Rattle.std.proofs.Common.{Less, Equal, Greater, ◌≡◌, ℕ, suc, ◌+◌, ◌==◌, nat_lt, ◌++◌, ◌&&◌, Bool, true, false, cond, List, [], ◌∷◌, length, drop, Option, None, Some, Result, Ok, Err, IfOk, refl, sym, ap, ◌∙◌, subst, drop-cons, add-one, inl, inr, arith}
+use Rattle.std.proofs.Common.{Less, Equal, Greater, ◌≡◌, ℕ, suc, ◌+◌, ◌==◌, nat_lt, ◌++◌, ◌&&◌, Bool, true, false, cond, List, [], ◌∷◌, length, drop, Option, None, Some, Result, Ok, Err, IfOk, refl, sym, ap, ◌∙◌, subst, drop-cons, add-one, arith}
 use Rattle.std.specs.List.{list_all, slice_get}
 use Rattle.std.specs.Option.{is_none}
 use Rattle.std.specs.Ordering.{nat_cmp, is_eq}
 use Rattle.std.specs.BTreeMap.{BTreeMap, get, is_at}
-use Rattle.std.proofs.lemmas.Bool.{eqb-true, eqb-false, ltb-true, cond-true, cond-false}
+use Rattle.std.proofs.lemmas.Bool.{eqb-true, eqb-false, ltb-true}
 use Rattle.std.proofs.lemmas.Option.{slice_get_within, get_or_from_slice_get, same_Some}
 use Rattle.kn_logic.specs.Literals.{Literal}
 use Rattle.kn_lines.specs.declared.line.Arm.{Arm}

@@ -1,9 +1,8 @@
 -- How few clauses a search can learn.
-use Rattle.std.proofs.Common.{◌≡◌, ℕ, zero, suc, ◌+◌, ◌-◌, ◌*◌, ◌^◌, ◌≤◌, ◌<◌, ◌⊎◌, ◌++◌, ◌||◌, Bool, true, false, cond, eqb, List, [], ◌∷◌, map, length, Option, None, Some, Result, Ok, Err, slice_set, refl, sym, ap, ◌∙◌, subst, inl, inr, arith}
-use Rattle.std.specs.List.{AllByRecursion, IsDistinct, slice_get}
+use Rattle.std.proofs.Common.{◌≡◌, ℕ, zero, suc, ◌+◌, ◌-◌, ◌*◌, ◌^◌, ◌≤◌, ◌<◌, ◌⊎◌, ◌++◌, Bool, true, false, cond, eqb, List, [], ◌∷◌, map, length, Option, None, Some, Result, Ok, Err, slice_set, refl, sym, ap, ◌∙◌, subst, inl, inr, arith}
+use Rattle.std.specs.List.{AllByRecursion, IsDistinct}
 use Rattle.std.specs.Option.{is_none}
 use Rattle.std.proofs.Math.Nat.{pow-suc, mul-le-mul_left}
-use Rattle.std.proofs.lemmas.Option.{same_Some}
 use Rattle.kn_logic.specs.Literals.{Literal, AreKnown}
 use Rattle.kn_logic.specs.Constraints.{Bounded, clause}
 use Rattle.kn_lines.specs.declared.line.Line.{Line}
@@ -12,7 +11,7 @@ use Rattle.kn_rules.specs.declared.given.Given.{Given}
 use Rattle.kn_rules.specs.declared.given.Origin.{Origin}
 use Rattle.kn_rules.specs.declared.given.Origin.TheVariants as origin
 use Rattle.kn_rules.specs.States.{ProofState, given_at, live_at}
-use Rattle.kn_rules.specs.Steps.{hinted, with_clause, if_conflict, follow, without, deleted, with_given, step}
+use Rattle.kn_rules.specs.Steps.{without, deleted}
 use Rattle.kn_logic.specs.Newness.{IsNew}
 use Rattle.kn_rules.specs.Stepping.{learned_in, deletions_in}
 use Rattle.kn_rules.specs.Searching.{is_searched, is_learned, live_before, searched, learned_live, SearchesBy}

@@ -1,5 +1,6 @@
 mod Truth
 mod Deleting
+mod Entering
 mod MarkLemmas
 mod Nodes
 mod OneCount

@@ -1,13 +1,12 @@
 -- The table of a list of literals: what it says, and what marking and unmarking make of it.
 use Rattle.std.proofs.Common.{◌≡◌, ◌≢◌, ℕ, ◌+◌, ◌-◌, ◌<◌, ◌++◌, ◌==◌, ◌&&◌, ◌||◌, Bool, true, false, not, cond, eqb, List, [], ◌∷◌, length, length-append, take, get_or, set, replicate, append_assoc, refl, sym, ap, ◌∙◌, subst, inl, inr, arith}
 use Rattle.std.specs.List.{filter}
-use Rattle.std.proofs.lemmas.Bool.{or_parts, eqb-false, eq-eqb, ne_eqb, cases_eq}
-use Rattle.std.proofs.lemmas.List.Elements.{All-from_recursion}
+use Rattle.std.proofs.lemmas.Bool.{eq-eqb, ne_eqb, cases_eq}
 use Rattle.std.proofs.Math.Seq.{get_or-append_seam}
 use Rattle.std.proofs.lemmas.List.{get_or_append_left, take_more, get_or-replicate, length-replicate, length-set, get_or-set_same, get_or-set_other}
 use Rattle.kn_logic.specs.Literals.{Literal, negated, is_same, has, names, IsKnown, AreKnown}
 use Rattle.kn_logic.specs.Propagation.{is_open}
-use Rattle.kn_logic.proofs.Public.{known-append, known-filter, known-front, known-last, known_at, has-push, unnamed}
+use Rattle.kn_logic.proofs.Public.{known-append, known-front, known-last, known_at, has-push, unnamed}
 use Rattle.kn_rules.specs.Marks.{unmarked, mark_of, IsMarked, entry_of, is_marked, with_literal, marked, is_unopposed}
 use Rattle.kn_rules.specs.declared.assumed.Mark.{Mark}
 

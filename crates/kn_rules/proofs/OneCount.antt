@@ -1,6 +1,5 @@
 -- A variable stands for one node of a level alone: the count of its node is fixed by what it leads to.
-use Rattle.std.proofs.Common.{ℕ, zero, suc, ◌≡◌, ◌+◌, ◌-◌, ◌<◌, ◌≤◌, ◌==◌, nat_lt, ◌⊎◌, inl, inr, Bool, true, false, not, ◌&&◌, ◌||◌, if◌then◌else◌, List, [], ◌∷◌, length, Option, Some, None, refl, sym, ap, subst, ◌∙◌, arith, true≢false}
-use Rattle.std.specs.Option.{option_map_or}
+use Rattle.std.proofs.Common.{ℕ, ◌≡◌, ◌+◌, ◌-◌, ◌<◌, ◌≤◌, ◌==◌, nat_lt, ◌⊎◌, inl, inr, Bool, true, false, not, ◌&&◌, if◌then◌else◌, List, [], ◌∷◌, length, Option, Some, None, refl, sym, ap, ◌∙◌, arith, true≢false}
 use Rattle.std.proofs.lemmas.Bool.{eqb-true, eqb-false, ltb-true, ltb-false, cond-true, cond-false, and_parts, or_cases}
 use Rattle.kn_logic.specs.Literals.{Literal, negated, is_same}
 use Rattle.kn_lines.specs.declared.line.Arm.{Arm}
@@ -9,7 +8,7 @@ use Rattle.kn_counter.specs.Grids.{cell_of}
 use Rattle.kn_counter.specs.declared.grid.Cell.{Cell}
 use Rattle.kn_counter.specs.declared.grid.Cell.TheVariants as cell
 use Rattle.kn_rules.specs.declared.definition.Definition.{Definition}
-use Rattle.kn_rules.specs.Grids.{variable_of, splits, stands_as, led_to, stands_for}
+use Rattle.kn_rules.specs.Grids.{splits, stands_as, stands_for}
 use Rattle.kn_rules.specs.Demands.{arm_of}
 
 -- what stands for a node that is no constant

@@ -1,5 +1,5 @@
 -- What a checker keeps between two lines.
-use Rattle.std.proofs.Common.{◌≡◌, ℕ, ◌+◌, ◌-◌, ◌≤◌, ◌++◌, ◌&&◌, Bool, true, false, cond, leb, List, [], ◌∷◌, length, length-append, map, Some, Result, Err, IsOk, IfOk, refl, sym, ap, ◌∙◌, subst, arith}
+use Rattle.std.proofs.Common.{◌≡◌, ℕ, ◌+◌, ◌-◌, ◌≤◌, ◌++◌, ◌&&◌, Bool, true, false, cond, leb, List, [], ◌∷◌, length, length-append, map, Some, Result, Ok, Err, IsOk, IfOk, refl, sym, ap, ◌∙◌, subst, arith}
 use Rattle.std.specs.List.{AllByRecursion}
 use Rattle.std.proofs.lemmas.Bool.{and_parts, leb-true}
 use Rattle.kn_logic.proofs.Public.{All-push, All-append}
@@ -12,7 +12,9 @@ use Rattle.kn_rules.specs.States.{ProofState, defined_among, looked_up, definiti
 use Rattle.kn_rules.specs.States.{IsDefinedWithin}
 use Rattle.kn_rules.specs.Grids.{is_root}
 use Rattle.kn_rules.specs.Marks.{AssumedLiterals}
-use Rattle.kn_rules.specs.Steps.{are_known, follow, is_known_variable, is_known_arm, by_definition, definition_clauses, define, count}
+use Rattle.kn_rules.specs.Steps.{are_known, follow, is_known_variable, is_known_arm, by_definition, definition_clauses, define, count, deleted}
+use Rattle.kn_rules.specs.Entries.{Entered}
+use Rattle.kn_rules.proofs.Deleting.{deleted-still}
 use Rattle.kn_rules.proofs.Extending.{live-more, defined-more}
 use Rattle.kn_rules.proofs.Defining.{by_definition-all, definition-within}
 use Rattle.kn_rules.proofs.Units.{defined-known}
@@ -86,3 +88,9 @@ pub root-looked-up : {E : Type 0} (s : ProofState) (before : Defined) (lits : Li
 root-looked-up s before lits bound root r e h =
     let base : before.base ≡ s.vars - length before.list = omega (arith, e) in
     subst (λ (b : ℕ). IfOk r (λ found. found ≡ is_root (defined_among before.list b) lits bound root)) base h
+
+-- entries of which some were deleted
+pub deleted-ready : (vars : ℕ) (ids : List ℕ) (old new : Entered) (assumed : AssumedLiterals) → IsReady vars old.defined old.given assumed → deleted old.given ids ≡ Ok new.given → new.defined ≡ old.defined → IsReady vars new.defined new.given assumed
+deleted-ready vars ids old new assumed h e same =
+    subst (λ (d : Defined). IsReady vars d new.given assumed) (sym same)
+    (record { empty = h.empty; room = h.room; within = deleted-still (IsWithin vars) ids old.given new.given h.within e; count = h.count })

@@ -1,11 +1,11 @@
 -- A run of hints under an assignment: where all hints hold and all literals of the list are true, the
 -- run does not end in conflict, and all literals stay true.
-use Rattle.std.proofs.Common.{◌≡◌, ℕ, ◌+◌, ◌≤◌, ◌⊎◌, ◌++◌, Bool, true, false, not, cond, eqb, ltb, List, [], ◌∷◌, Option, None, Some, refl, sym, ap, ◌∙◌, inl, inr, arith}
-use Rattle.std.specs.List.{AllByRecursion, filter}
+use Rattle.std.proofs.Common.{◌≡◌, ℕ, ◌≤◌, ◌⊎◌, ◌++◌, Bool, true, false, not, eqb, ltb, List, [], ◌∷◌, Option, None, Some, ap, ◌∙◌, inl, inr, arith}
+use Rattle.std.specs.List.{AllByRecursion}
 use Rattle.std.specs.Option.{option_and_then}
-use Rattle.std.proofs.lemmas.Bool.{and_parts, or_cases, cases_Bool, cond_both, eqb-true, ltb-true, not_from_false}
+use Rattle.std.proofs.lemmas.Bool.{or_cases, cases_Bool, cond_both, eqb-true, ltb-true, not_from_false}
 use Rattle.kn_logic.proofs.Public.{true-negated, true-same, places-le, all-kept}
-use Rattle.kn_logic.specs.Literals.{Literal, negated, is_same, has, places}
+use Rattle.kn_logic.specs.Literals.{Literal, negated, is_same, has}
 use Rattle.kn_logic.specs.Assignments.{is_true, true_places}
 use Rattle.kn_logic.specs.Constraints.{Bounded, IsOff, Holds}
 use Rattle.kn_logic.specs.Propagation.{is_open, open_places, after_bound, after_guard, after_parts, after_hint, hint_run}

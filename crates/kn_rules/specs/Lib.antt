@@ -7,5 +7,9 @@ pub mod Searching
 pub mod Marks
 pub mod Demands
 pub mod Feeding
+pub mod Packing
+pub mod Entries
+pub mod Lives
+pub mod Lent
 pub mod Restoring
 pub mod Checking

@@ -1,19 +1,36 @@
--- Constraints that were taken out are put back under their ids.
-use Rattle.std.specs.Prelude.{ℕ, ◌-◌, List, [], ◌∷◌, Option, Some, None, slice_set}
-use Rattle.kn_logic.specs.Constraints.{Bounded}
-use Rattle.kn_rules.specs.declared.given.Given.{Given}
-use Rattle.kn_rules.specs.States.{given_at}
+-- Slots that are deleted one after another, and slots that were taken out and are put back under their ids.
+use Rattle.std.specs.Prelude.{ℕ, ◌-◌, ◌==◌, if◌then◌else◌, List, [], ◌∷◌, Option, Some, None, Result, Ok, Err, option_and_then, slice_get, slice_set}
+use Rattle.std.specs.Option.{is_none}
+use Rattle.kn_rules.specs.declared.slot.Slot.{Slot}
+use Rattle.kn_rules.specs.declared.slot.Slot.TheVariants.{Kept, Derived, Deleted}
+use Rattle.kn_rules.specs.Entries.{origin_of}
 
--- the entries with a constraint under an id, where the id was given
-abbrev pub with_live : List Given → ℕ → Option Given → Bounded → List Given
-with_live given id None c = given
-with_live given id (Some entry) c = slice_set given (id - 1) (record entry { live = Some c })
+-- a slot that is not deleted
+abbrev pub standing_slot : Slot → Option Slot
+standing_slot (Kept o c) = Some (Kept o c)
+standing_slot (Derived place number) = Some (Derived place number)
+standing_slot (Deleted o) = None
 
-abbrev pub put : List Given → ℕ → Bounded → List Given
-put given id c = with_live given id (given_at given id) c
+-- the slot of a live id; none where the id was not given or is deleted
+abbrev pub slot_at : List Slot → ℕ → Option Slot
+slot_at slots id = if id == 0 then None else option_and_then standing_slot (slice_get slots (id - 1))
 
--- the entries with the constraints under the first of the ids, the last first
-abbrev pub restored : List Given → List ℕ → List Bounded → List Given
-restored given ids [] = given
-restored given [] (c ∷ cs) = given
-restored given (id ∷ ids) (c ∷ cs) = put (restored given ids cs) id c
+-- the slots with that of an id deleted
+abbrev pub without_slot : List Slot → ℕ → Option Slot → List Slot
+without_slot slots id None = slots
+without_slot slots id (Some slot) = slice_set slots (id - 1) (Deleted (origin_of slot))
+
+-- Each id is deleted where it is live when its turn comes.
+abbrev pub deleted_slots : List Slot → List ℕ → Result (List Slot) ℕ
+deleted_slots slots [] = Ok slots
+deleted_slots slots (id ∷ ids) = if is_none (slot_at slots id) then Err 4 else deleted_slots (without_slot slots id (slot_at slots id)) ids
+
+-- the slots with one under an id, where the id was given
+abbrev pub put : List Slot → ℕ → Slot → List Slot
+put slots id slot = if id == 0 then slots else slice_set slots (id - 1) slot
+
+-- the slots with those that were taken out under the first of the ids, the last first
+abbrev pub restored : List Slot → List ℕ → List Slot → List Slot
+restored slots ids [] = slots
+restored slots [] (slot ∷ taken) = slots
+restored slots (id ∷ ids) (slot ∷ taken) = put (restored slots ids taken) id slot

@@ -1,6 +1,6 @@
 -- The lines that a search adds to a proof: learned clauses that are new, deletions of learned clauses, and at last
 -- perhaps the clause without literals. None of them rests on definitions, lemmas or unfolded klauses.
-use Rattle.std.specs.Prelude.{ℕ, ◌≡◌, ◌≤◌, ◌+◌, Bool, true, false, if◌then◌else◌, List, [], ◌∷◌, length, Option, Some, None, Ok}
+use Rattle.std.specs.Prelude.{ℕ, ◌≡◌, ◌≤◌, ◌+◌, Bool, true, false, if◌then◌else◌, List, [], ◌∷◌, length, Option, Some, Ok}
 use Rattle.std.specs.List.{AllByRecursion}
 use Rattle.kn_logic.specs.Literals.{AreKnown}
 use Rattle.kn_logic.specs.Constraints.{Bounded}

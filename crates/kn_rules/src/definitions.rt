@@ -1,8 +1,9 @@
-ghost use Rattle.std.specs.Prelude.{◌≡◌, ◌≤◌, ◌+◌, ◌++◌, ◌∷◌, ◌^◌, [], length, OnOk, OnErr, option_copied};
+ghost use Rattle.std.specs.Prelude.{◌≡◌, ◌≤◌, ◌+◌, ◌++◌, ◌∷◌, ◌^◌, [], length, OnOk, OnErr, option_map, slice_get};
 ghost use Rattle.kn_rules.specs.States.{looked_up};
+ghost use Rattle.kn_rules.specs.Entries.{variable_of};
 
 use crate::Definition;
-use kn_lines::Arm;
+use crate::packed::Packed;
 use kn_logic::{Lit, NoMemory};
 use std::alloc::Global;
 use std::marker::Model;
@@ -11,7 +12,7 @@ use std::marker::Model;
 #[derive(Debug, Drop)]
 pub struct Definitions {
     base: u64,
-    list: Vec<Definition>,
+    list: Vec<Packed>,
 }
 
 impl Model for Definitions {
@@ -37,6 +38,13 @@ impl Definitions {
         }
     }
 
+    /// The number of definitions.
+    pub fn len(&self) -> u64
+        ensures { result ≡ length self.now.list }
+    {
+        self.list.len() as u64
+    }
+
     /// The variable that is defined next.
     pub fn next(&self) -> u64
         ensures { result ≡ self.now.base + length self.now.list + 1 }
@@ -45,22 +53,38 @@ impl Definitions {
     }
 
     /// The definition of a variable; `None` exactly where it is none of those that are defined.
-    pub fn get(&self, variable: u64) -> Option<&Definition>
-        ensures { option_copied result ≡ looked_up self.now variable }
+    pub fn get(&self, variable: u64) -> Option<Definition>
+        ensures { result ≡ looked_up self.now variable }
     {
         if variable <= self.base {
             return None;
         }
-        self.list.get((variable - self.base - 1) as usize)
+        match self.list.get((variable - self.base - 1) as usize) {
+            Some(packed) => Some(packed.definition()),
+            None => None,
+        }
     }
 
-    /// Defines the next variable as "if test then high else low". Fails where memory is wanting, and nothing is
-    /// defined then.
-    pub fn push(&mut self, test: Lit, high: Arm, low: Arm) -> Result<(), NoMemory>
-        ensures ok { OnOk result (self.new ≡ record self.old { list = self.old.list ++ (record { test = test; high = high; low = low }) ∷ [] }) }
+    /// The definition with this number, counted from 0, and before it the variable that it defines; `None` exactly
+    /// where there are not so many.
+    pub fn at(&self, number: u64) -> Option<(Lit, Definition)>
+        ensures { result ≡ option_map (λ d. (variable_of self.now.base number, d)) (slice_get self.now.list number) }
+    {
+        match self.list.get(number as usize) {
+            Some(packed) => {
+                let variable = self.base + number + 1;
+                Some((Lit::new(variable, true), packed.definition()))
+            }
+            None => None,
+        }
+    }
+
+    /// Defines the next variable. Fails where memory is wanting, and nothing is defined then.
+    pub fn push(&mut self, d: &Definition) -> Result<(), NoMemory>
+        ensures ok { OnOk result (self.new ≡ record self.old { list = self.old.list ++ d.now ∷ [] }) }
         ensures err { OnErr result (self.new ≡ self.old) }
     {
-        self.list.push(Definition { test, high, low })?;
+        self.list.push(Packed::new(d))?;
         Ok(())
     }
 }

@@ -1,26 +1,24 @@
 ghost use Rattle.std.specs.Prelude.{◌≡◌, ◌≤◌, [], Ok, Err, true, false, IfSome, IfNone, IsOk, length, vec_capacity};
-ghost use Rattle.kn_rules.specs.States.{given_at, live_at};
-ghost use Rattle.kn_rules.specs.Steps.{without, deleted};
-ghost use Rattle.kn_rules.specs.Restoring.{put, restored};
+ghost use Rattle.kn_rules.specs.Restoring.{slot_at, without_slot, deleted_slots, put, restored};
 
-use crate::Given;
-use kn_logic::Constraint;
+use crate::slot::Slot;
+use std::mem;
 
-/// Takes the constraints of the ids out, one after another, as far as each is live when its turn comes,
-/// and tells whether all were.
-pub fn take_out(given: &mut [Given], ids: &[u64], taken: &mut Vec<Constraint>) -> bool
+/// Takes the slots of the ids out, one after another, as far as each is live when its turn comes, and tells whether
+/// all were.
+pub fn take_out(slots: &mut [Slot], ids: &[u64], taken: &mut Vec<Slot>) -> bool
     requires empty { taken.old.items ≡ [] }
     requires room { length ids.now ≤ vec_capacity taken.old }
-    ensures all { result ≡ true → deleted given.old ids.now ≡ Ok given.new }
-    ensures wrong { result ≡ false → deleted given.old ids.now ≡ Err 4 }
-    ensures back { restored given.new ids.now taken.new.items ≡ given.old }
+    ensures all { result ≡ true → deleted_slots slots.old ids.now ≡ Ok slots.new }
+    ensures wrong { result ≡ false → deleted_slots slots.old ids.now ≡ Err 4 }
+    ensures back { restored slots.new ids.now taken.new.items ≡ slots.old }
     ensures count { length taken.new.items ≤ length ids.now }
 {
     for id in ids {
-        let Some(c) = take(given, *id) else {
+        let Some(slot) = take(slots, *id) else {
             return false
         };
-        let Ok(()) = taken.push(c) else {
+        let Ok(()) = taken.push(slot) else {
             unreachable!()
         };
     }
@@ -28,43 +26,48 @@ pub fn take_out(given: &mut [Given], ids: &[u64], taken: &mut Vec<Constraint>) -
 }
 
 /// Deletes the ids, each of which is live when its turn comes.
-pub fn discard(given: &mut [Given], ids: &[u64])
-    requires { IsOk (deleted given.old ids.now) }
-    ensures { deleted given.old ids.now ≡ Ok given.new }
+pub fn remove(slots: &mut [Slot], ids: &[u64])
+    requires { IsOk (deleted_slots slots.old ids.now) }
+    ensures { deleted_slots slots.old ids.now ≡ Ok slots.new }
 {
     for id in ids {
-        let Some(_c) = take(given, *id) else {
+        let Some(_slot) = take(slots, *id) else {
             unreachable!()
         };
     }
 }
 
-/// Puts the constraints back under the first of the ids.
-pub fn put_back(given: &mut [Given], ids: &[u64], mut taken: Vec<Constraint>)
+/// Puts the slots back under the first of the ids.
+pub fn put_back(slots: &mut [Slot], ids: &[u64], mut taken: Vec<Slot>)
     requires { length taken.items ≤ length ids.now }
-    ensures { given.new ≡ restored given.old ids.now taken.items }
+    ensures { slots.new ≡ restored slots.old ids.now taken.items }
 {
-    while let Some(c) = taken.pop() {
-        put(given, ids[taken.len()], c);
+    while let Some(slot) = taken.pop() {
+        put(slots, ids[taken.len()], slot);
     }
 }
 
-fn take(given: &mut [Given], id: u64) -> Option<Constraint>
-    ensures value { result ≡ live_at given.old id }
-    ensures some { IfSome result (λ _. given.new ≡ without given.old id (given_at given.old id)) }
-    ensures none { IfNone result (given.new ≡ given.old) }
+fn take(slots: &mut [Slot], id: u64) -> Option<Slot>
+    ensures value { result ≡ slot_at slots.old id }
+    ensures some { IfSome result (λ _. slots.new ≡ without_slot slots.old id (slot_at slots.old id)) }
+    ensures none { IfNone result (slots.new ≡ slots.old) }
 {
-    if id == 0 || given.len() < id as usize {
+    if id == 0 || slots.len() < id as usize {
         return None;
     }
-    given[id as usize - 1].live.take()
+    let place = id as usize - 1;
+    if let Slot::Deleted(_) = slots[place] {
+        return None;
+    }
+    let origin = slots[place].origin();
+    Some(mem::replace(&mut slots[place], Slot::Deleted(origin)))
 }
 
-fn put(given: &mut [Given], id: u64, c: Constraint)
-    ensures { given.new ≡ put given.old id c }
+fn put(slots: &mut [Slot], id: u64, slot: Slot)
+    ensures { slots.new ≡ put slots.old id slot }
 {
-    if id == 0 || given.len() < id as usize {
+    if id == 0 || slots.len() < id as usize {
         return;
     }
-    given[id as usize - 1].live = Some(c);
+    slots[id as usize - 1] = slot;
 }

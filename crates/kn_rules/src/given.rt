@@ -17,7 +17,7 @@ pub enum Origin {
     Unfolding,
 }
 
-/// What an id stands for.
+/// What an id stands for, as the state of a proof has it. A checker keeps it in less memory.
 #[derive(Debug, Drop)]
 pub struct Given {
     /// What gave the id.

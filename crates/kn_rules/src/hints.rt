@@ -6,45 +6,46 @@ ghost use Rattle.kn_logic.specs.Propagation.{after_bound, after_guard, after_hin
 ghost use Rattle.kn_rules.specs.States.{AreLiveWithin};
 ghost use Rattle.kn_rules.specs.Steps.{hinted, is_conflict};
 
-use crate::Given;
 use crate::assumed::Assumed;
-use crate::ids::{are_live, live};
-use kn_logic::{Constraint, Lit, NoMemory};
+use crate::entries::Entries;
+use crate::ids::are_live;
+use crate::live::Live;
+use kn_logic::{Lit, NoMemory};
 
 /// Whether the hints, run from the negations of the literals, end in conflict; `None` exactly where one of them
 /// is not live, also behind a conflict. Each is looked up once. The list of what is assumed, which is empty, is so
 /// again afterwards.
 pub fn follows(
     assumed: &mut Assumed,
-    given: &[Given],
+    entries: &Entries,
     lits: &[Lit],
     hints: &[u64],
 ) -> Result<Option<bool>, NoMemory>
     requires empty { assumed.old.lits ≡ [] }
     requires known { AreKnown assumed.old.vars lits.now }
-    requires within { AreLiveWithin assumed.old.vars given.now }
-    ensures run { IfOk result (λ run. run ≡ option_map (is_conflict lits.now) (hinted given.now hints.now)) }
+    requires within { AreLiveWithin assumed.old.vars entries.now.given }
+    ensures run { IfOk result (λ run. run ≡ option_map (is_conflict lits.now) (hinted entries.now.given hints.now)) }
     ensures same { assumed.new ≡ assumed.old }
 {
-    let run = run_from_negations(assumed, given, lits, hints);
+    let run = run_from_negations(assumed, entries, lits, hints);
     assumed.clear();
     run
 }
 
 fn run_from_negations(
     assumed: &mut Assumed,
-    given: &[Given],
+    entries: &Entries,
     lits: &[Lit],
     hints: &[u64],
 ) -> Result<Option<bool>, NoMemory>
     requires empty { assumed.old.lits ≡ [] }
     requires known { AreKnown assumed.old.vars lits.now }
-    requires within { AreLiveWithin assumed.old.vars given.now }
-    ensures run { IfOk result (λ run. run ≡ option_map (is_conflict lits.now) (hinted given.now hints.now)) }
+    requires within { AreLiveWithin assumed.old.vars entries.now.given }
+    ensures run { IfOk result (λ run. run ≡ option_map (is_conflict lits.now) (hinted entries.now.given hints.now)) }
     ensures vars { assumed.new.vars ≡ assumed.old.vars }
 {
     push_negations(assumed, lits)?;
-    run_hints(assumed, given, hints)
+    run_hints(assumed, entries, hints)
 }
 
 fn push_negations(assumed: &mut Assumed, lits: &[Lit]) -> Result<(), NoMemory>
@@ -61,20 +62,20 @@ fn push_negations(assumed: &mut Assumed, lits: &[Lit]) -> Result<(), NoMemory>
 /// Whether the run of the hints ends in conflict. Those behind it are not run, but are to be live too.
 fn run_hints(
     assumed: &mut Assumed,
-    given: &[Given],
+    entries: &Entries,
     hints: &[u64],
 ) -> Result<Option<bool>, NoMemory>
-    requires { AreLiveWithin assumed.old.vars given.now }
-    ensures run { IfOk result (λ run. run ≡ option_map (λ cs. is_none (hint_run assumed.old.lits cs)) (hinted given.now hints.now)) }
+    requires { AreLiveWithin assumed.old.vars entries.now.given }
+    ensures run { IfOk result (λ run. run ≡ option_map (λ cs. is_none (hint_run assumed.old.lits cs)) (hinted entries.now.given hints.now)) }
     ensures vars { assumed.new.vars ≡ assumed.old.vars }
 {
     let mut left = hints;
     while let Some((id, rest)) = left.split_first() {
-        let Some(hint) = live(given, *id) else {
+        let Some(hint) = entries.find(*id) else {
             return Ok(None)
         };
-        if !apply(assumed, hint)? {
-            return Ok(conflict_before(given, rest));
+        if !apply(assumed, &hint)? {
+            return Ok(conflict_before(entries, rest));
         }
         left = rest;
     }
@@ -82,10 +83,10 @@ fn run_hints(
 }
 
 /// What becomes of a run that has ended in conflict: `None` exactly where a hint behind it is not live.
-fn conflict_before(given: &[Given], rest: &[u64]) -> Option<bool>
-    ensures { result ≡ option_map (λ _. true) (hinted given.now rest.now) }
+fn conflict_before(entries: &Entries, rest: &[u64]) -> Option<bool>
+    ensures { result ≡ option_map (λ _. true) (hinted entries.now.given rest.now) }
 {
-    if are_live(given, rest) {
+    if are_live(entries, rest) {
         Some(true)
     } else {
         None
@@ -93,7 +94,7 @@ fn conflict_before(given: &[Given], rest: &[u64]) -> Option<bool>
 }
 
 /// Runs one hint, and tells whether the run goes on: it does not where it ends in conflict.
-fn apply(assumed: &mut Assumed, hint: &Constraint) -> Result<bool, NoMemory>
+fn apply(assumed: &mut Assumed, hint: &Live) -> Result<bool, NoMemory>
     requires { IsWithin assumed.old.vars hint.now }
     ensures run { IfOk result (λ on. after_hint assumed.old.lits hint.now ≡ (if on then Some assumed.new.lits else None)) }
     ensures vars { assumed.new.vars ≡ assumed.old.vars }

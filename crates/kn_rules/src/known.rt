@@ -4,9 +4,8 @@ ghost use Rattle.kn_logic.specs.Literals.{AreKnown};
 ghost use Rattle.kn_rules.specs.States.{AreLiveWithin, live_at};
 ghost use Rattle.kn_rules.specs.Steps.{are_known, is_known_variable, is_known_arm, are_different};
 
-use crate::Given;
 use crate::assumed::Assumed;
-use crate::ids::live;
+use crate::entries::Entries;
 use kn_lines::Arm;
 use kn_logic::{Lit, NoMemory};
 
@@ -54,13 +53,13 @@ pub fn are_different(assumed: &mut Assumed, lits: &[Lit]) -> Result<bool, NoMemo
 
 /// Whether the constraint of an id has no guard and no variable at two places; `None` exactly where the id is not
 /// live.
-pub fn is_plain(assumed: &mut Assumed, given: &[Given], id: u64) -> Result<Option<bool>, NoMemory>
+pub fn is_plain(assumed: &mut Assumed, entries: &Entries, id: u64) -> Result<Option<bool>, NoMemory>
     requires empty { assumed.old.lits ≡ [] }
-    requires within { AreLiveWithin assumed.old.vars given.now }
-    ensures value { IfOk result (λ found. found ≡ option_map (λ c. is_none c.guard && are_different c.lits) (live_at given.now id)) }
+    requires within { AreLiveWithin assumed.old.vars entries.now.given }
+    ensures value { IfOk result (λ found. found ≡ option_map (λ c. is_none c.guard && are_different c.lits) (live_at entries.now.given id)) }
     ensures same { assumed.new ≡ assumed.old }
 {
-    match live(given, id) {
+    match entries.find(id) {
         Some(c) => {
             if c.guard().is_some() {
                 return Ok(Some(false));

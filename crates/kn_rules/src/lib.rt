@@ -5,7 +5,9 @@
 //! stand for the nodes of a count's grid (`Grids`), what a line asks of a state and makes of it (`Steps`),
 //! lines one after another (`Stepping`), whole proofs and their first fault (`Proofs`), and the lines that a
 //! search may add (`Searching`), of which there are few by law. `Feeding` and `Checking` have the words of
-//! the contracts, `Marks`, `Restoring` and `Demands` what the code keeps.
+//! the contracts, `Marks`, `Demands`, `Entries`, `Packing`, `Lives`, `Lent` and `Restoring` what the code keeps.
+//! `check` steps by a `Machine`, which makes the four constraints of a definition where a hint asks for one of them;
+//! a `Checker` has them in memory too, since it lends the constraint of any id.
 #![tactic(auto)]
 
 mod assumed;
@@ -15,12 +17,19 @@ mod definition;
 mod definitions;
 mod deletion;
 mod demands;
+mod entries;
+mod four;
 mod given;
 mod grid;
 mod hints;
 mod ids;
 mod known;
 mod laws;
+mod live;
+mod machine;
+mod made;
+mod packed;
+mod slot;
 mod whole;
 
 pub use assumed::Assumed;

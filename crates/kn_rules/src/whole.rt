@@ -6,7 +6,8 @@ ghost use Rattle.kn_lines.specs.declared.line.Line.TheVariants.{Header};
 ghost use Rattle.kn_rules.specs.Proofs.{IsProof, IsFirstWrong, WrongFrom};
 ghost use Rattle.kn_rules.specs.Checking.{IfVerified, IfFault, EndsRefuted, Takes, BeginsFilled};
 
-use crate::{Checker, FeedError};
+use crate::FeedError;
+use crate::machine::Machine;
 use kn_lines::{Line, LineError, read_line};
 use kn_logic::{Formula, NoMemory};
 use kn_text::{first_line, is_skipped};
@@ -55,8 +56,8 @@ fn answer(alloc: Global, f: &Formula, bytes: &[u8]) -> Result<Checked, NoMemory>
             why: 1,
         });
     }
-    let mut checker = Checker::new(alloc, f)?;
-    check_lines(alloc, &mut checker, passed + 1, behind)
+    let mut machine = Machine::new(alloc, f)?;
+    check_lines(alloc, &mut machine, passed + 1, behind)
 }
 
 /// Passes over the lines that are skipped, up to the first other one: their number, and what is left.
@@ -97,35 +98,35 @@ fn is_header(alloc: Global, f: &Formula, line: &[u8]) -> Result<bool, NoMemory>
 /// Checks the lines behind the header, before which so many lines stand.
 fn check_lines(
     alloc: Global,
-    checker: &mut Checker,
+    machine: &mut Machine,
     mut line: u64,
     mut rest: &[u8],
 ) -> Result<Checked, NoMemory>
     requires { line + length rest.now < 2 ^ 64 }
-    ensures verified { IfOk result (λ checked. IfVerified checked (EndsRefuted checker.old (content_from (line + 1) (lines_of rest.entry.now)))) }
-    ensures wrong { IfOk result (λ checked. IfFault checked (WrongFrom checker.old (content_from (line + 1) (lines_of rest.entry.now)) (line + length (lines_of rest.entry.now)))) }
+    ensures verified { IfOk result (λ checked. IfVerified checked (EndsRefuted machine.old (content_from (line + 1) (lines_of rest.entry.now)))) }
+    ensures wrong { IfOk result (λ checked. IfFault checked (WrongFrom machine.old (content_from (line + 1) (lines_of rest.entry.now)) (line + length (lines_of rest.entry.now)))) }
 {
     while let Some((text, behind)) = first_line(rest) {
         line += 1;
         rest = behind;
-        match take_line(alloc, checker, text) {
+        match take_line(alloc, machine, text) {
             Ok(()) => {}
             Err(FeedError::Wrong(why)) => return Ok(Checked::NotVerified { line, why }),
             Err(FeedError::Memory) => return Err(AllocError),
         }
     }
-    match checker.finish() {
+    match machine.finish() {
         Ok(()) => Ok(Checked::Verified),
         Err(why) => Ok(Checked::NotVerified { line, why }),
     }
 }
 
 /// Takes a line of a text, if it is not one that is skipped.
-fn take_line(alloc: Global, checker: &mut Checker, text: &[u8]) -> Result<(), FeedError>
-    ensures { Takes result (words_of text.now) checker.old checker.new }
+fn take_line(alloc: Global, machine: &mut Machine, text: &[u8]) -> Result<(), FeedError>
+    ensures { Takes result (words_of text.now) machine.old machine.new }
 {
     match read_line(alloc, text) {
-        Ok(Some(line)) => checker.feed(&line),
+        Ok(Some(line)) => machine.feed(&line),
         Ok(None) => Ok(()),
         Err(LineError::Bad) => Err(FeedError::Wrong(2)),
         Err(LineError::Memory) => Err(FeedError::Memory),

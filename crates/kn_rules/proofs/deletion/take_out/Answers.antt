@@ -9,6 +9,6 @@ loop-id-preserved c =
     record {
       count = omega (arith, c.in-Ok.ensures.len);
       room = search rules;
-      rest = taken-rest c.loop-id.given _ c.args.ids.now c.loop-id.id-index _ c.in-Some.c _ c.loop-id.invariant.rest c.loop-id-test.true refl (sym c.in-Some.ensures.value) c.in-Some.ensures.some;
-      back = subst (λ x. restored c.take.new.given c.args.ids.now x ≡ c.args.given.now) (sym c.in-Ok.ensures.items) (taken-back c.loop-id.given _ _ c.args.ids.now c.loop-id.id-index _ c.loop-id.taken.items c.in-Some.c c.loop-id.invariant.back len c.loop-id-test.true refl (sym c.in-Some.ensures.value) c.in-Some.ensures.some);
+      rest = taken-rest c.loop-id.slots _ c.args.ids.now c.loop-id.id-index _ c.in-Some.slot _ c.loop-id.invariant.rest c.loop-id-test.true refl (sym c.in-Some.ensures.value) c.in-Some.ensures.some;
+      back = subst (λ x. restored c.take.new.slots c.args.ids.now x ≡ c.args.slots.now) (sym c.in-Ok.ensures.items) (taken-back c.loop-id.slots _ _ c.args.ids.now c.loop-id.id-index _ c.loop-id.taken.items c.in-Some.slot c.loop-id.invariant.back len c.loop-id-test.true refl (sym c.in-Some.ensures.value) c.in-Some.ensures.some);
     }

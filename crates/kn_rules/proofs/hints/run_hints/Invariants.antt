@@ -6,7 +6,7 @@ use Rattle.kn_rules.proofs.hints.run_hints.Given as goal
 
 abbrev pub invariant-loop-id : goal.invariant-loop-id
 invariant-loop-id l = record {
-  run : option_map (λ cs. is_none (hint_run l.assumed.lits cs)) (hinted l.given l.left) ≡ option_map (λ cs. is_none (hint_run l.fn.assumed.lits cs)) (hinted l.given l.hints);
+  run : option_map (λ cs. is_none (hint_run l.assumed.lits cs)) (hinted l.entries.given l.left) ≡ option_map (λ cs. is_none (hint_run l.fn.assumed.lits cs)) (hinted l.entries.given l.hints);
   vars : l.assumed.vars ≡ l.fn.assumed.vars;
 }
 

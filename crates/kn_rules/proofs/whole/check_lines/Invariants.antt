@@ -10,8 +10,8 @@ invariant-loop-text l =
     let here = content_from (l.line + 1) (lines_of l.rest) in
     let count = l.fn.line + length (lines_of l.fn.rest) in
     record {
-      proof : EndsRefuted l.checker here → EndsRefuted l.fn.checker first;
-      wrong : (found : Fault) → WrongFrom l.checker here count found → WrongFrom l.fn.checker first count found;
+      proof : EndsRefuted l.machine here → EndsRefuted l.fn.machine first;
+      wrong : (found : Fault) → WrongFrom l.machine here count found → WrongFrom l.fn.machine first count found;
       count : l.line + length (lines_of l.rest) ≡ count;
       room : l.line + length l.rest < 2 ^ 64;
     }

@@ -1,5 +1,0 @@
-use Rattle.kn_rules.proofs.Ready.{counted-within}
-use Rattle.kn_rules.proofs.checker.Checker.keep_klause.Goals as goal
-
-pub give-requires : goal.give-requires
-give-requires c = counted-within c.args.self.now c.args.c c.args.root c.args.unit c.requires.formed c.requires.steps
