@@ -15,3 +15,4 @@ mod Apart
 mod Covered
 mod Stays
 mod Excluded
+mod After

@@ -1,5 +1,5 @@
 -- What is kept of a store, so that many groups are guessed from it while others are taken out of it.
-use Rattle.std.specs.Prelude.{ℕ, ◌≡◌, ◌≤◌, ◌+◌, ◌*◌, ◌==◌, ◌&&◌, not, Bool, true, false, if◌then◌else◌, List, [], ◌∷◌, ◌++◌, length, map, filter, IfSome, slice_index_or}
+use Rattle.std.specs.Prelude.{ℕ, ◌≡◌, ◌≤◌, ◌+◌, ◌-◌, ◌*◌, ◌==◌, ◌&&◌, not, Bool, true, false, if◌then◌else◌, List, [], ◌∷◌, ◌++◌, length, map, filter, IfSome, slice_index_or}
 use Rattle.std.specs.Option.{is_some}
 use Rattle.std.specs.List.{list_any, AllByRecursion}
 use Rattle.std.specs.List.Sorted.{IsStrictlyIncreasing}
@@ -7,11 +7,25 @@ use Rattle.kn_logic.specs.Literals.{Literal, is_same, IsKnown}
 use Rattle.kn_logic.specs.Constraints.{Bounded}
 use Rattle.kn_logic.specs.Groups.{is_pair_of, has_pair}
 use Rattle.kn_store.specs.Stores.{Numbered, Stored, constraints_of, constraint_at}
-use Rattle.kn_guess.specs.Guesses.{candidates}
+use Rattle.kn_guess.specs.Guesses.{is_seed, candidates}
+use Rattle.kn_guess.specs.Seen.{IsSeen}
 
 -- the constraints that pass a test are taken out, and one comes in their place
 abbrev pub replaced : Stored → (Bounded → Bool) → Bounded → Stored
 replaced s test c = record { vars = s.vars; added = s.added + 1; live = filter (λ p. not (test p.constraint)) s.live ++ record { id = s.added + 1; constraint = c } ∷ [] }
+
+-- For each variable, that of variable 1 first: whether it stands in no klause, and whether it passes the test of a
+-- seed. No seed below `from` is asked any more.
+pub record SeedTable : Type 0 where
+  pub from : ℕ
+  pub free : List Bool
+  pub seeds : List Bool
+
+-- A table that tells the seeds of a store.
+pub record IsSeedTable (s : Stored) (t : SeedTable) : Type 0 where
+  pub seen : IsSeen s t.free
+  pub long : length t.seeds ≡ s.vars
+  pub tested : (x : ℕ) → 1 ≤ x → x ≤ s.vars → slice_index_or t.seeds (x - 1) false ≡ is_seed (constraints_of s.live) x
 
 -- a literal that stands with another in a binary clause, and the id of one such clause
 pub record Paired : Type 0 where

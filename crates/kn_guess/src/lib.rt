@@ -7,6 +7,7 @@ mod asks;
 mod border;
 mod covering;
 mod error;
+mod flags;
 mod growing;
 mod guess;
 mod joining;
@@ -27,7 +28,7 @@ pub use laws::{
     refused_seeds_have_no_guess, refused_starts_have_no_guess,
 };
 pub use pairs::{Pairs, pair_guess};
-pub use seeds::aux_guess;
+pub use seeds::{Seeds, aux_guess};
 
 #[cfg(test)]
 mod tests;

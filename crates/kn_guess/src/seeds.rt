@@ -1,19 +1,23 @@
-ghost use Rattle.std.specs.Prelude.{◌≡◌, ◌≤◌, false, filter, IfOk, IfErr};
+ghost use Rattle.std.specs.Prelude.{ℕ, ◌≡◌, ◌≤◌, true, false, List, filter, IfOk, IfErr};
 ghost use Rattle.std.specs.List.{AllByRecursion};
 ghost use Rattle.std.specs.List.Sorted.{IsStrictlyIncreasing};
-ghost use Rattle.kn_store.specs.Stores.{IsStored, constraints_of, ids_of, chosen};
-ghost use Rattle.kn_guess.specs.Guesses.{in_klause, touches, IsBorder, IsSeedGuess};
+ghost use Rattle.kn_logic.specs.Constraints.{klause};
+ghost use Rattle.kn_store.specs.Stores.{Stored, IsStored, constraints_of, ids_of, chosen};
+ghost use Rattle.kn_guess.specs.Guesses.{in_klause, is_seed, touches, IsBorder, IsSeedGuess};
 ghost use Rattle.kn_guess.specs.Refusals.{IsRefused};
 ghost use Rattle.kn_guess.specs.Seen.{IsSeen};
+ghost use Rattle.kn_guess.specs.Tables.{SeedTable, IsSeedTable, replaced};
 
-use crate::asks::{free_variables, is_seed};
+use crate::asks::{free_variables, seed_variables};
 use crate::border::border;
+use crate::flags::Flags;
 use crate::growing::least;
 use crate::taking::{ascending, found, ids_with};
 use crate::{Guess, NoGuess};
 use kn_logic::{Group, Lit, NoMemory};
 use kn_store::Store;
 use std::alloc::Global;
+use std::marker::Model;
 
 /// The guess of a seed, which is a variable of the store: the least set of variables that has it, and with
 /// each variable the later ones than the seed that stand in no klause and in a clause with it; all
@@ -25,22 +29,79 @@ pub fn aux_guess(alloc: Global, store: &Store, seed: u64) -> Result<Guess, NoGue
     ensures guess { IfOk result (λ g. IsSeedGuess store.now seed g.group g.ids) }
     ensures refused { IfErr result (IsRefused (constraints_of store.now.live) seed) }
 {
-    let free = free_variables(alloc, store)?;
-    let _vars = store.vars();
-    seed_guess(alloc, store, &free, seed)
+    let mut seeds = Seeds::new(alloc, store)?;
+    seeds.guess(alloc, store, seed)
+}
+
+/// What is kept of a store to guess from all its seeds, ascending. It stays right where a group that was
+/// guessed is taken out of the store, and its klause has come, if it is told of it.
+#[derive(Debug, Drop)]
+pub struct Seeds {
+    from: u64,
+    free: Flags,
+    seeds: Flags,
+}
+
+impl Model for Seeds {
+    ghost use Rattle.kn_guess.specs.Tables.{SeedTable};
+
+    ghost Value = { SeedTable };
+
+    ghost view = { λ s. record { from = s.from; free = s.free; seeds = s.seeds } };
+}
+
+impl Seeds {
+    /// The seeds of a store. An error where memory is wanting.
+    pub fn new(alloc: Global, store: &Store) -> Result<Seeds, NoMemory>
+        ensures table { IfOk result (IsSeedTable store.now) }
+        ensures from { IfOk result (λ x. x.from ≡ 1) }
+    {
+        Ok(Seeds {
+            from: 1,
+            free: Flags::new(free_variables(alloc, store)?),
+            seeds: Flags::new(seed_variables(alloc, store)?),
+        })
+    }
+
+    /// The guess of a seed, as `aux_guess` gives it. Seeds are asked in ascending order.
+    pub fn guess(&mut self, alloc: Global, store: &Store, seed: u64) -> Result<Guess, NoGuess>
+        requires first { 1 ≤ seed }
+        requires last { seed ≤ store.now.vars }
+        requires table { IsSeedTable store.now self.old }
+        requires later { self.old.from ≤ seed }
+        ensures guess { IfOk result (λ g. IsSeedGuess store.now seed g.group g.ids) }
+        ensures refused { IfErr result (IsRefused (constraints_of store.now.live) seed) }
+        ensures table { IsSeedTable store.now self.new }
+        ensures from { self.new.from ≤ seed }
+    {
+        let _vars = store.vars();
+        self.from = seed;
+        if !self.seeds.is_up(seed) {
+            return Err(NoGuess::NotSeed);
+        }
+        seed_guess(alloc, store, self.free.all(), seed)
+    }
+
+    /// The group was taken out of the store, and its klause has come.
+    pub fn took(&mut self, group: &Group)
+        ensures table { (s : Stored) (seed : ℕ) (ids : List ℕ) (bound : ℕ) → IsStored s → IsSeedTable s self.old → IsSeedGuess s seed group.now ids → 2 ≤ bound → IsSeedTable (replaced s (touches group.now.aux) (klause bound group.now.border)) self.new }
+        ensures from { self.new.from ≡ self.old.from }
+    {
+        self.free.lower_lits(group.border());
+        self.seeds.lower_lits(group.border());
+        self.seeds.lower_all(group.aux());
+    }
 }
 
 fn seed_guess(alloc: Global, store: &Store, free: &[bool], seed: u64) -> Result<Guess, NoGuess>
     requires first { 1 ≤ seed }
     requires last { seed ≤ store.now.vars }
+    requires seed { is_seed (constraints_of store.now.live) seed ≡ true }
     requires seen { IsSeen store.now free.now }
     requires stored { IsStored store.now }
     ensures guess { IfOk result (λ g. IsSeedGuess store.now seed g.group g.ids) }
     ensures refused { IfErr result (IsRefused (constraints_of store.now.live) seed) }
 {
-    if !is_seed(store, seed) {
-        return Err(NoGuess::NotSeed);
-    }
     let Some(set) = least(alloc, store, free, seed)? else {
         return Err(NoGuess::TooMany);
     };
