@@ -15,7 +15,7 @@ use Rattle.kn_store.proofs.Public.{all-one, all-two, from-map, to-map}
 use Rattle.kn_guess.specs.Guesses.{in_klause, in_binary, share, stands, is_seed, IsClosedFrom, IsLeastFrom, touches, is_border, IsSeedGuess}
 use Rattle.kn_guess.specs.Seen.{IsSeen}
 use Rattle.kn_guess.specs.Flags.{lowered}
-use Rattle.kn_guess.specs.Tables.{SeedTable, IsSeedTable, replaced}
+use Rattle.kn_guess.specs.Tables.{SeedTable, in_some, IsNear, IsSeedTable, replaced}
 use Rattle.kn_guess.proofs.Elements.{bool-same, and-both, not-true, false-not, any-with, each-any, any-map, any-filter, any-alike}
 use Rattle.kn_guess.proofs.Lives.{clause-named}
 use Rattle.kn_guess.proofs.Bordered.{the-literal, touches-from, touched}
@@ -68,7 +68,7 @@ members-alone cs seed set least alone x i =
     } in
     not-true (in_klause cs x) (and_parts (is_among set x) (not (in_klause cs x)) (sym (among-but (λ v. not (in_klause cs v)) set x) ∙ least.1 rest closed x i)).1
 
-seed-alone : (cs : List Bounded) (x : ℕ) → is_seed cs x ≡ true → in_klause cs x ≡ false
+pub seed-alone : (cs : List Bounded) (x : ℕ) → is_seed cs x ≡ true → in_klause cs x ≡ false
 seed-alone cs x e = not-true (in_klause cs x) (and_parts (not (in_klause cs x)) (in_binary cs x && (stands cs (the-literal x true) && stands cs (the-literal x false))) e).0
 
 -- what is known of the guess
@@ -285,7 +285,7 @@ lowered-is flags (v ∷ vs) x h low = lowered-is (set flags (v - 1) false) vs x 
     both true false c = refl
     both false b c = refl
 
-known-named : (vars : ℕ) (guard : Option Literal) (lits : List Literal) → IfSome guard (IsKnown vars) → AreKnown vars lits → AreKnown vars (option_to_list guard ++ lits)
+pub known-named : (vars : ℕ) (guard : Option Literal) (lits : List Literal) → IfSome guard (IsKnown vars) → AreKnown vars lits → AreKnown vars (option_to_list guard ++ lits)
 known-named vars None lits g k = k
 known-named vars (Some l) lits g k = (g, k)
 
@@ -301,9 +301,51 @@ border-counted s seed g ids stored h = to-map (λ l. l.variable) (λ v. 1 ≤ v)
         let both = and_parts (has (named q.0) l) (touches g.aux q.0) q.1 in
         (at-literal (IsKnown s.vars) (named q.0) l (known-named s.vars q.0.guard q.0.lits q.2.within.guard q.2.within.lits) both.0).0
 
+-- neighbours of what is left are as before
+pub near-after : (s : Stored) (g : Gathered) (bound from : ℕ) (entries members : List (List ℕ)) → IsTaking s g → 2 ≤ bound → IsNear s from entries members → IsNear (after s g bound) from entries members
+near-after s g bound from entries members taking low h = record {
+  long = h.long;
+  placed = h.placed;
+  sound = λ x z first alone some n.
+      let out = left x alone some in
+      let before : in_some cs x ≡ true = sym (any-after s g bound x (λ c. names (named c) x) taking out.0 out.1 (λ c e. e)) ∙ some in
+      sharing x z out.0 out.1 ∙ h.sound x z first (free x alone) before n;
+  complete = λ x z first alone later none e.
+      let some = any-first ds x z e in
+      let out = left x alone some in
+      h.complete x z first (free x alone) later (free z none) (sym (sharing x z out.0 out.1) ∙ e);
+}
+  where
+    cs : List Bounded
+    cs = constraints_of s.live
+
+    ds : List Bounded
+    ds = constraints_of (after s g bound).live
+
+    free : (x : ℕ) → in_klause ds x ≡ false → in_klause cs x ≡ false
+    free x e = (or_parts (in_klause cs x) (names g.border x) (sym (klause-after s g bound x taking low) ∙ e)).0
+
+    left : (x : ℕ) → in_klause ds x ≡ false → in_some ds x ≡ true → (is_among g.aux x ≡ false) × (names g.border x ≡ false)
+    left x e some = (at (is_among g.aux x) refl, (or_parts (in_klause cs x) (names g.border x) (sym (klause-after s g bound x taking low) ∙ e)).1)
+      where
+        at : (t : Bool) → is_among g.aux x ≡ t → is_among g.aux x ≡ false
+        at false i = i
+        at true i = absurd (true≢false (sym some ∙ none-after s g bound x (λ c. names (named c) x) taking i (λ c e. e)))
+
+    sharing : (x z : ℕ) → is_among g.aux x ≡ false → names g.border x ≡ false → share ds x z ≡ share cs x z
+    sharing x z off none = any-after s g bound x (λ c. names (named c) x && names (named c) z) taking off none (λ c e. (and_parts (names (named c) x) (names (named c) z) e).0)
+
+    any-first : (es : List Bounded) (x z : ℕ) → share es x z ≡ true → in_some es x ≡ true
+    any-first [] x z e = e
+    any-first (c ∷ es) x z e = one (or_cases (names (named c) x && names (named c) z) (share es x z) e) (λ h. any-first es x z h)
+      where
+        one : ((names (named c) x && names (named c) z) ≡ true) ⊎ (share es x z ≡ true) → (share es x z ≡ true → in_some es x ≡ true) → (names (named c) x || in_some es x) ≡ true
+        one (inl h) more = or_left (names (named c) x) (in_some es x) (and_parts (names (named c) x) (names (named c) z) h).0
+        one (inr h) more = or_right (names (named c) x) (in_some es x) (more h)
+
 pub table-taken : (s : Stored) (seed bound : ℕ) (g : Gathered) (ids : List ℕ) (t u : SeedTable) → IsStored s → IsSeedTable s t → IsSeedGuess s seed g ids → 2 ≤ bound → AllByRecursion (λ v. 1 ≤ v) g.aux
-    → u.free ≡ lowered t.free (map (λ l. l.variable) g.border) → u.seeds ≡ lowered (lowered t.seeds (map (λ l. l.variable) g.border)) g.aux → IsSeedTable (after s g bound) u
-table-taken s seed bound g ids t u stored h guess low counted free-is seeds-is = record {
+    → u.from ≡ t.from → u.entries ≡ t.entries → u.members ≡ t.members → u.free ≡ lowered t.free (map (λ l. l.variable) g.border) → u.seeds ≡ lowered (lowered t.seeds (map (λ l. l.variable) g.border)) g.aux → IsSeedTable (after s g bound) u
+table-taken s seed bound g ids t u stored h guess low counted from-is entries-is members-is free-is seeds-is = record {
   seen = record {
     long = ap length free-is ∙ lowered-long t.free vs ∙ h.seen.long;
     says = λ x from to.
@@ -316,6 +358,8 @@ table-taken s seed bound g ids t u stored h guess low counted free-is seeds-is =
       ap (λ z. get_or z (x - 1) false) seeds-is ∙ lowered-is (lowered t.seeds vs) g.aux x counted from
       ∙ ap (λ a. a && not (is_among g.aux x)) (lowered-is t.seeds vs x border from ∙ ap₂ (λ a b. a && not b) (h.tested x from to) (names-among g.border x))
       ∙ sym (seed-after s g bound x taking low);
+  near = subst (λ n. IsNear (after s g bound) n u.entries u.members) (sym from-is)
+      (subst (λ z. IsNear (after s g bound) t.from z u.members) (sym entries-is) (subst (IsNear (after s g bound) t.from t.entries) (sym members-is) (near-after s g bound t.from t.entries t.members taking low h.near)));
 }
   where
     vs : List ℕ

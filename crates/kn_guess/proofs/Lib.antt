@@ -16,3 +16,6 @@ mod Covered
 mod Stays
 mod Excluded
 mod After
+mod Walked
+mod Swapped
+mod Built

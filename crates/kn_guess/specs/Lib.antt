@@ -4,6 +4,7 @@ pub mod Growing
 pub mod Seen
 pub mod Sides
 pub mod Flags
+pub mod Walks
 pub mod Tables
 pub mod Pairing
 pub use Rattle.kn_store.specs.Stores

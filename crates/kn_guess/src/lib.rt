@@ -13,13 +13,16 @@ mod guess;
 mod joining;
 mod laws;
 mod meeting;
+mod numbers;
 mod pairs;
 mod partner;
 mod pick;
 mod rows;
 mod seeds;
+mod tables;
 mod taking;
 mod var_set;
+mod walking;
 
 pub use error::NoGuess;
 pub use guess::Guess;

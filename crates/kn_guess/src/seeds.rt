@@ -6,12 +6,15 @@ ghost use Rattle.kn_store.specs.Stores.{Stored, IsStored, constraints_of, ids_of
 ghost use Rattle.kn_guess.specs.Guesses.{in_klause, is_seed, touches, IsBorder, IsSeedGuess};
 ghost use Rattle.kn_guess.specs.Refusals.{IsRefused};
 ghost use Rattle.kn_guess.specs.Seen.{IsSeen};
-ghost use Rattle.kn_guess.specs.Tables.{SeedTable, IsSeedTable, replaced};
+ghost use Rattle.kn_guess.specs.Tables.{SeedTable, IsNear, IsSeedTable, replaced};
 
 use crate::asks::{free_variables, seed_variables};
 use crate::border::border;
 use crate::flags::Flags;
 use crate::growing::least;
+use crate::numbers::Numbers;
+use crate::pick::Later;
+use crate::tables::{entries, members};
 use crate::taking::{ascending, found, ids_with};
 use crate::{Guess, NoGuess};
 use kn_logic::{Group, Lit, NoMemory};
@@ -40,6 +43,8 @@ pub struct Seeds {
     from: u64,
     free: Flags,
     seeds: Flags,
+    entries: Vec<Numbers>,
+    members: Vec<Numbers>,
 }
 
 impl Model for Seeds {
@@ -47,7 +52,7 @@ impl Model for Seeds {
 
     ghost Value = { SeedTable };
 
-    ghost view = { λ s. record { from = s.from; free = s.free; seeds = s.seeds } };
+    ghost view = { λ s. record { from = s.from; free = s.free; seeds = s.seeds; entries = s.entries.items; members = s.members.items } };
 }
 
 impl Seeds {
@@ -60,6 +65,8 @@ impl Seeds {
             from: 1,
             free: Flags::new(free_variables(alloc, store)?),
             seeds: Flags::new(seed_variables(alloc, store)?),
+            entries: entries(alloc, store)?,
+            members: members(alloc, store)?,
         })
     }
 
@@ -79,7 +86,11 @@ impl Seeds {
         if !self.seeds.is_up(seed) {
             return Err(NoGuess::NotSeed);
         }
-        seed_guess(alloc, store, self.free.all(), seed)
+        let later = Later {
+            seed,
+            free: self.free.all(),
+        };
+        seed_guess(alloc, store, &mut self.entries, &mut self.members, &later)
     }
 
     /// The group was taken out of the store, and its klause has come.
@@ -93,16 +104,24 @@ impl Seeds {
     }
 }
 
-fn seed_guess(alloc: Global, store: &Store, free: &[bool], seed: u64) -> Result<Guess, NoGuess>
-    requires first { 1 ≤ seed }
-    requires last { seed ≤ store.now.vars }
-    requires seed { is_seed (constraints_of store.now.live) seed ≡ true }
-    requires seen { IsSeen store.now free.now }
+fn seed_guess(
+    alloc: Global,
+    store: &Store,
+    entries: &mut Vec<Numbers>,
+    members: &mut Vec<Numbers>,
+    later: &Later,
+) -> Result<Guess, NoGuess>
+    requires first { 1 ≤ later.now.seed }
+    requires last { later.now.seed ≤ store.now.vars }
+    requires seed { is_seed (constraints_of store.now.live) later.now.seed ≡ true }
+    requires seen { IsSeen store.now later.now.free.now }
     requires stored { IsStored store.now }
-    ensures guess { IfOk result (λ g. IsSeedGuess store.now seed g.group g.ids) }
-    ensures refused { IfErr result (IsRefused (constraints_of store.now.live) seed) }
+    requires near { IsNear store.now later.now.seed entries.old.items members.old.items }
+    ensures near { IsNear store.now later.now.seed entries.new.items members.new.items }
+    ensures guess { IfOk result (λ g. IsSeedGuess store.now later.now.seed g.group g.ids) }
+    ensures refused { IfErr result (IsRefused (constraints_of store.now.live) later.now.seed) }
 {
-    let Some(set) = least(alloc, store, free, seed)? else {
+    let Some(set) = least(alloc, store, entries, members, later)? else {
         return Err(NoGuess::TooMany);
     };
     let aux = ascending(Vec::from_slice(alloc, set.vars())?);
