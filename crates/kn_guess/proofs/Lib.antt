@@ -1,7 +1,6 @@
 mod Elements
 mod Rising
 mod Lives
-mod Asked
 mod Gathers
 mod Grown
 mod Bordered
@@ -19,3 +18,4 @@ mod After
 mod Walked
 mod Swapped
 mod Built
+mod Marked

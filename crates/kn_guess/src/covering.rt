@@ -8,7 +8,7 @@ ghost use Rattle.kn_store.specs.Stores.{IsStored, ids_of, naming};
 ghost use Rattle.kn_guess.specs.Pairing.{positives, covered_among, covered_ids, IsCoverOf};
 
 use crate::Guess;
-use crate::asks::is_binary;
+use crate::binary::is_binary;
 use crate::border::literals;
 use crate::taking::{ascending, found};
 use crate::var_set::VarSet;

@@ -3,7 +3,7 @@
 //! `specs/Guesses.antt`, and why a variable has no guess in `specs/Refusals.antt`.
 #![tactic(auto)]
 
-mod asks;
+mod binary;
 mod border;
 mod covering;
 mod error;
@@ -12,6 +12,7 @@ mod growing;
 mod guess;
 mod joining;
 mod laws;
+mod marks;
 mod meeting;
 mod numbers;
 mod pairs;

@@ -6,13 +6,13 @@ ghost use Rattle.kn_guess.specs.Guesses.{joined, candidates, pair_group, IsPairG
 ghost use Rattle.kn_guess.specs.Tables.{PairTable, IsPairTable};
 
 use crate::Guess;
-use crate::asks::is_binary;
+use crate::binary::binary;
 use crate::border::LEAST_BORDER;
 use crate::covering::covered;
 use crate::joining::joined;
 use crate::partner::Partners;
 use crate::rows::{empty_rows, enter_all};
-use kn_logic::{Constraint, Lit, NoMemory};
+use kn_logic::{Lit, NoMemory};
 use kn_store::Store;
 use std::alloc::Global;
 use std::marker::Model;
@@ -76,16 +76,4 @@ impl Pairs {
         }
         Ok(Some(covered(alloc, store, &group)?))
     }
-}
-
-// The binary clause of an id.
-fn binary(store: &Store, id: u64) -> Option<&Constraint>
-    ensures some { IfSome result (λ c. (constraint_at store.now.live id ≡ Some c.now) × (is_binary c.now ≡ true)) }
-    ensures none { IfNone result ((c : Bounded) → constraint_at store.now.live id ≡ Some c → is_binary c ≡ false) }
-{
-    let c = store.get(id)?;
-    if !is_binary(c) {
-        return None;
-    }
-    Some(c)
 }

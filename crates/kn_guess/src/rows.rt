@@ -6,7 +6,7 @@ ghost use Rattle.kn_store.specs.Stores.{IsStored, ids_of, naming};
 ghost use Rattle.kn_guess.specs.Tables.{rank, row};
 ghost use Rattle.kn_guess.specs.Pairing.{other_of, entered, all_entered};
 
-use crate::asks::is_binary;
+use crate::binary::is_binary;
 use crate::partner::{Partner, Partners};
 use kn_logic::{Constraint, Lit, NoMemory};
 use kn_store::Store;

@@ -8,10 +8,10 @@ ghost use Rattle.kn_guess.specs.Refusals.{IsRefused};
 ghost use Rattle.kn_guess.specs.Seen.{IsSeen};
 ghost use Rattle.kn_guess.specs.Tables.{SeedTable, IsNear, IsSeedTable, replaced};
 
-use crate::asks::{free_variables, seed_variables};
 use crate::border::border;
 use crate::flags::Flags;
 use crate::growing::least;
+use crate::marks::{free, seeds};
 use crate::numbers::Numbers;
 use crate::pick::Later;
 use crate::tables::{entries, members};
@@ -61,12 +61,14 @@ impl Seeds {
         ensures table { IfOk result (IsSeedTable store.now) }
         ensures from { IfOk result (λ x. x.from ≡ 1) }
     {
+        let members = members(alloc, store)?;
+        let free = free(alloc, store, members.len())?;
         Ok(Seeds {
             from: 1,
-            free: Flags::new(free_variables(alloc, store)?),
-            seeds: Flags::new(seed_variables(alloc, store)?),
+            seeds: seeds(alloc, store, &free, members.len())?,
+            free,
             entries: entries(alloc, store)?,
-            members: members(alloc, store)?,
+            members,
         })
     }
 

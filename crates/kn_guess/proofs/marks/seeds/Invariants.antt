@@ -1,7 +1,7 @@
-use Rattle.std.proofs.Common.{◌≡◌, ◌-◌, ◌≤◌, ℕ, length, false, slice_index_or}
+use Rattle.std.proofs.Common.{◌≡◌, ◌≤◌, ◌-◌, ℕ, length, false, slice_index_or}
 use Rattle.kn_store.specs.Stores.{constraints_of}
 use Rattle.kn_guess.specs.Guesses.{is_seed}
-use Rattle.kn_guess.proofs.asks.seed_variables.Given as goal
+use Rattle.kn_guess.proofs.marks.seeds.Given as goal
 
 abbrev pub invariant-loop-place : goal.invariant-loop-place
 invariant-loop-place l = record {
