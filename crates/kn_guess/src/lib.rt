@@ -3,19 +3,36 @@
 //! `specs/Guesses.antt`, and why a variable has no guess in `specs/Refusals.antt`.
 #![tactic(auto)]
 
-mod asks;
+mod binary;
 mod border;
+mod covering;
 mod error;
+mod flags;
 mod growing;
 mod guess;
+mod joining;
+mod laws;
+mod marks;
+mod meeting;
+mod numbers;
+mod pairs;
+mod partner;
 mod pick;
+mod rows;
 mod seeds;
+mod tables;
 mod taking;
 mod var_set;
+mod walking;
 
 pub use error::NoGuess;
 pub use guess::Guess;
-pub use seeds::aux_guess;
+pub use laws::{
+    pair_guesses_are_pair_groups, pairs_stay, refusals_exclude_each_other,
+    refused_seeds_have_no_guess, refused_starts_have_no_guess,
+};
+pub use pairs::{Pairs, pair_guess};
+pub use seeds::{Seeds, aux_guess};
 
 #[cfg(test)]
 mod tests;
