@@ -1,0 +1,7 @@
+mod Lists
+mod Truth
+mod Steps
+mod Seeds
+mod Pairs
+mod Unique
+mod Whole

@@ -1,0 +1,8 @@
+//! The extraction of hidden counts: groups of clauses are guessed, each is verified, and those that count are
+//! replaced by a klause. What an extraction is stands in `specs/Extractions.antt`, apart from stores and diagrams;
+//! that a formula has one, and that it keeps models both ways, are the laws of `laws.rt`.
+#![tactic(auto)]
+
+mod laws;
+
+pub use laws::{an_extraction_is_one, an_extraction_keeps_models};
