@@ -4,4 +4,6 @@ mod Steps
 mod Seeds
 mod Pairs
 mod Unique
+mod Moments
+mod Structured
 mod Whole

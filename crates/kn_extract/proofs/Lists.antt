@@ -86,6 +86,9 @@ own-has (l ∷ lits) = (
   all-one (λ m. has lits m ≡ true) (λ m. has (l ∷ lits) m ≡ true) (λ m h. or_right (is_same m l) (has lits m) h) lits (own-has lits),
 )
 
+pub own-among : (xs : List ℕ) → AllByRecursion (λ x. is_among xs x ≡ true) xs
+own-among xs = all-one (λ x. (f : ℕ → Bool) → f x ≡ true → list_any f xs ≡ true) (λ x. is_among xs x ≡ true) (λ x h. h (λ v. v == x) (eq-eqb x x refl)) xs (each-any xs)
+
 pub among-filter : (p : ℕ → Bool) (x : ℕ) (xs : List ℕ) → is_among (filter p xs) x ≡ (p x && is_among xs x)
 among-filter p x xs = any-filter_same (λ v. v == x) p (p x) (λ k e. ap p (eqb-true k x e)) xs
 

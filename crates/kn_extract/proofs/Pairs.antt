@@ -429,4 +429,5 @@ pair-step s start x t fits h =
           any-kept (λ c. names (named c) l.variable) (is_covered g.border) s.live
           (ap (λ z. named_in z l.variable) (sym h.guess.taken) ∙ pair-named g.taken l m.0 (pair-each s start g x.ids h.guess l m.0 e m.1 m.2)))
           g.border (own-has g.border);
+      border_apart = none-among g.aux h.guess.aux g.border;
     }

@@ -145,4 +145,6 @@ seed-step s seed x t fits h =
           (λ l e. stands-named cs l (any-kept (λ c. has (named c) l) (touches g.aux) s.live (ap (λ z. stands z l) (sym h.guess.taken)
           ∙ (and_parts (stands g.taken l) (not (is_among g.aux l.variable)) (sym (h.guess.border.1 l) ∙ e)).0)))
           g.border (own-has g.border);
+      border_apart = all-one (λ l. has g.border l ≡ true) (λ l. is_among g.aux l.variable ≡ false)
+          (λ l e. not-true (is_among g.aux l.variable) (and_parts (stands g.taken l) (not (is_among g.aux l.variable)) (sym (h.guess.border.1 l) ∙ e)).1) g.border (own-has g.border);
     }

@@ -96,6 +96,7 @@ pub record IsStep (s : Stored) (x : Found) (t : Stored) : Type 0 where
   pub aux_free : (v : ℕ) → is_among x.group.aux v ≡ true → in_klause (constraints_of s.live) v ≡ false
   pub aux_named : (v : ℕ) → is_among x.group.aux v ≡ true → named_in (constraints_of s.live) v ≡ true
   pub border_named : AllByRecursion (λ l. named_in (constraints_of s.live) l.variable ≡ true) x.group.border
+  pub border_apart : AllByRecursion (λ l. is_among x.group.aux l.variable ≡ false) x.group.border
 
 within-named : (vars : ℕ) (guard : Option Literal) (lits : List Literal) → IfSome guard (IsKnown vars) → AreKnown vars lits → AreKnown vars (option_to_list guard ++ lits)
 within-named vars None lits a b = b

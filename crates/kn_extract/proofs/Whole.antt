@@ -6,16 +6,10 @@ use Rattle.kn_logic.specs.Formulas.{Problem, IsFormula, Satisfies}
 use Rattle.kn_logic.specs.Groups.{is_among}
 use Rattle.kn_store.specs.Stores.{Stored, constraints_of, problem_of}
 use Rattle.kn_extract.specs.Extractions.{Found, IsSeedTaken, IsPairTaken, IsExtraction, numbered, stored_of, listed, AgreeOff}
+use Rattle.kn_extract.proofs.Moments.{start-same}
 use Rattle.kn_extract.proofs.Steps.{tries-formula, tries-on, tries-back, among-parts}
 use Rattle.kn_extract.proofs.Seeds.{seed-step}
 use Rattle.kn_extract.proofs.Pairs.{pair-step}
-
-of-numbered : (n : ℕ) (cs : List Bounded) → constraints_of (numbered n cs) ≡ cs
-of-numbered n [] = refl
-of-numbered n (c ∷ cs) = ap (λ z. c ∷ z) (of-numbered (n + 1) cs)
-
-start-same : (f : Problem) → problem_of (stored_of f) ≡ f
-start-same f = ap (λ z. record { vars = f.vars; constraints = z }) (of-numbered 0 f.constraints)
 
 pub start-formula : (f : Problem) → IsFormula f → IsFormula (problem_of (stored_of f))
 start-formula f fits = subst IsFormula (sym (start-same f)) fits

@@ -1,8 +1,11 @@
 //! The extraction of hidden counts: groups of clauses are guessed, each is verified, and those that count are
 //! replaced by a klause. What an extraction is stands in `specs/Extractions.antt`, apart from stores and diagrams;
-//! that a formula has one, and that it keeps models both ways, are the laws of `laws.rt`.
+//! that a formula has one, and that it keeps models both ways, are laws of `laws.rt`. How its groups lie is in
+//! `specs/Structure.antt`.
 #![tactic(auto)]
 
 mod laws;
 
-pub use laws::{an_extraction_is_one, an_extraction_keeps_models};
+pub use laws::{
+    an_extraction_is_one, an_extraction_keeps_models, groups_stand_apart, what_remains_is_known,
+};
