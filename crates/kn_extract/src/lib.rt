@@ -4,8 +4,12 @@
 //! `specs/Structure.antt`.
 #![tactic(auto)]
 
+mod extraction;
 mod laws;
+mod taken;
 
+pub use extraction::Extraction;
 pub use laws::{
     an_extraction_is_one, an_extraction_keeps_models, groups_stand_apart, what_remains_is_known,
 };
+pub use taken::Taken;
