@@ -1,22 +1,27 @@
 -- What holds of an extraction at each moment: of the groups taken so far, and of what is left then.
-use Rattle.std.proofs.Common.{◌≡◌, ℕ, ◌+◌, ◌≤◌, ◌<◌, ◌==◌, Bool, true, false, not, cond, ◌&&◌, ◌||◌, List, [], ◌∷◌, ◌++◌, length, map, filter, Option, Some, None, refl, sym, ap, ap₂, subst, ◌∙◌, inl, inr, arith, true≢false, append_assoc, length-append}
+use Rattle.std.proofs.Common.{◌≡◌, ℕ, suc, ◌+◌, ◌≤◌, ◌<◌, ◌==◌, Bool, true, false, not, cond, ◌&&◌, ◌||◌, List, [], ◌∷◌, ◌++◌, length, map, filter, Option, Some, None, refl, sym, ap, ap₂, subst, ◌∙◌, inl, inr, arith, true≢false, append_assoc, length-append}
 use Rattle.std.specs.Prelude.{◌⊎◌}
 use Rattle.std.specs.List.{list_any, flat_map, AllByRecursion}
 use Rattle.std.specs.List.Sorted.{IsStrictlyIncreasing}
 use Rattle.std.proofs.lemmas.Bool.{or_left, or_right, or_parts, or_cases, and_parts, eqb-true, eq-eqb, ne_eqb}
 use Rattle.std.proofs.lemmas.List.{append-nil, length-map}
+use Rattle.std.proofs.lemmas.List.Filters.{length-filter_both}
+use Rattle.std.proofs.lemmas.List.Elements.{All-from_recursion}
+use Rattle.std.proofs.lemmas.Map.Keys.{sorted_from_strictly_increasing}
+use Rattle.std.proofs.lemmas.Map.Views.{length-le_from_below}
 use Rattle.std.proofs.lemmas.List.Folds.{list_any-append}
-use Rattle.kn_logic.specs.Literals.{Literal, names}
-use Rattle.kn_logic.specs.Constraints.{Bounded, is_clause, named, klause}
+use Rattle.kn_logic.specs.Literals.{Literal, names, IsKnown}
+use Rattle.kn_logic.specs.Constraints.{Bounded, is_clause, named, klause, Fits}
 use Rattle.kn_logic.specs.Formulas.{Problem, IsFormula}
 use Rattle.kn_logic.specs.Groups.{Gathered, is_among}
 use Rattle.kn_store.specs.Stores.{Numbered, Stored, IsStored, constraints_of, ids_of, constraint_at, chosen, problem_of}
 use Rattle.kn_store.proofs.Public.{all-one, all-two, from-map, to-map, all-filter, all-pass, Rises, rises, increasing, IsOwn, own}
 use Rattle.kn_guess.specs.Guesses.{in_klause}
 use Rattle.kn_extract.specs.Extractions.{Found, klause_of, numbered, stored_of, left, replaced, Tries}
-use Rattle.kn_extract.specs.Structure.{ids_taken, IsOwned, Pairwise, TakesOthers, IsClear, IsForeign, StandApart}
+use Rattle.kn_extract.specs.Structure.{IsOver, ids_taken, IsOwned, Pairwise, TakesOthers, IsClear, IsForeign, StandApart}
 use Rattle.kn_extract.proofs.Lists.{not-true, filter-yes, filter-no, any-with, each-any, own-among}
 use Rattle.kn_extract.proofs.Steps.{IsStep, AreSteps, named_in, step-formula, among-parts}
+use Rattle.kn_extract.proofs.Steps.{known-named as known-of}
 
 -- ---- lists
 
@@ -156,6 +161,9 @@ pub record IsMoment (f : Problem) (xs : List Found) (s : Stored) : Type 0 where
   pub others : Pairwise TakesOthers xs
   pub gone : AllByRecursion (λ x. IsGone x s.live) xs
   pub apart : Pairwise StandApart xs
+  pub over : AllByRecursion (λ x. IsOver f.vars x.group) xs
+  pub few : length s.live ≤ length f.constraints
+  pub within : AllByRecursion (λ x. x.bound ≤ f.vars) xs
 
 numbered-above : (last : ℕ) (cs : List Bounded) → AllByRecursion (λ p. (last + 1 ≤ p.id) × (p.id ≤ last + length cs)) (numbered last cs)
 numbered-above last [] = tt
@@ -188,6 +196,10 @@ start-stored f fits = record {
       (λ p k. (omega (arith, k.0), omega (arith, k.1))) (numbered 0 f.constraints) (numbered-above 0 f.constraints);
 }
 
+numbered-long : (last : ℕ) (cs : List Bounded) → length (numbered last cs) ≡ length cs
+numbered-long last [] = refl
+numbered-long last (c ∷ cs) = ap suc (numbered-long (last + 1) cs)
+
 numbered-end : (last : ℕ) (cs : List Bounded) (c : Bounded) → numbered last (cs ++ c ∷ []) ≡ numbered last cs ++ record { id = last + length cs + 1; constraint = c } ∷ []
 numbered-end last [] c = ap (λ n. record { id = n; constraint = c } ∷ []) {x = last + 1} {y = last + 0 + 1} (omega arith)
 numbered-end last (d ∷ cs) c =
@@ -205,6 +217,9 @@ start-moment f fits = record {
   others = tt;
   gone = tt;
   apart = tt;
+  over = tt;
+  few = let long = numbered-long 0 f.constraints in omega (arith, long);
+  within = tt;
 }
   where
     all-true : (ps : List Numbered) → AllByRecursion (λ p. true ≡ true) ps
@@ -409,6 +424,39 @@ apart-end s x t step y h = (
     never true h = absurd (h refl)
     never false h = refl
 
+-- all variables of a group are known
+known-named : (vars : ℕ) (cs : List Bounded) (v : ℕ) → AllByRecursion (Fits vars) cs → named_in cs v ≡ true → (1 ≤ v) × (v ≤ vars)
+known-named vars cs v fits e =
+    let q = any-with (Fits vars) (λ c. names (named c) v) cs fits e in
+    let r = any-with (IsKnown vars) (λ l. l.variable == v) (named q.0) (known-of vars q.0 q.2) q.1 in
+    subst (λ z. (1 ≤ z) × (z ≤ vars)) (eqb-true r.0.variable v r.1) r.2
+
+over-end : (f : Problem) (s : Stored) (x : Found) (t : Stored) → IsFormula (problem_of s) → s.vars ≡ f.vars → IsStep s x t → IsOver f.vars x.group
+over-end f s x t fits vars step = subst (λ n. IsOver n x.group) vars (record {
+  aux = all-one (λ v. is_among x.group.aux v ≡ true) (λ v. (1 ≤ v) × (v ≤ s.vars)) (λ v i. known-named s.vars (constraints_of s.live) v fits (step.aux_named v i)) x.group.aux (own-among x.group.aux);
+  border = step.known;
+})
+
+-- a step takes some clause, and adds one klause
+few-end : (s : Stored) (x : Found) (t : Stored) → IsStep s x t → length t.live ≤ length s.live
+few-end s x t step =
+    let gone = left step.test s.live in
+    let both = length-filter_both (λ p. step.test p.constraint) (λ p. not (step.test p.constraint)) (λ p. refl) s.live in
+    let some = subst (λ z. 1 ≤ z) (ap length step.taken ∙ length-map (chosen step.test s.live) (λ p. p.constraint)) step.some in
+    let long = ap (λ u. length u.live) step.next ∙ length-append gone (record { id = s.added + 1; constraint = klause_of x } ∷ []) in
+    omega (arith, both, some, long)
+
+-- a border has no more literals than there are variables
+below-next : (vars : ℕ) (lits : List Literal) → AllByRecursion (IsKnown vars) lits → AllByRecursion (λ v. v < vars + 1) (map (λ l. l.variable) lits)
+below-next vars lits h = to-map (λ l. l.variable) (λ v. v < vars + 1) lits (all-one (IsKnown vars) (λ l. l.variable < vars + 1) (λ l k. omega (arith, k.1)) lits h)
+
+within-end : (f : Problem) (s : Stored) (x : Found) (t : Stored) → s.vars ≡ f.vars → IsStep s x t → x.bound ≤ f.vars
+within-end f s x t vars step =
+    let variables : List ℕ = map (λ l. l.variable) x.group.border in
+    let short = length-le_from_below (s.vars + 1) variables (sorted_from_strictly_increasing variables step.ascends) (All-from_recursion (λ v. v < s.vars + 1) variables (below-next s.vars x.group.border step.known)) in
+    let long : length variables ≡ length x.group.border = length-map x.group.border (λ l. l.variable) in
+    omega (arith, short, long, step.high, vars)
+
 pub step-moment : (f : Problem) (xs : List Found) (s : Stored) (x : Found) (t : Stored) → IsMoment f xs s → IsStep s x t → IsMoment f (xs ++ x ∷ []) t
 step-moment f xs s x t m step = record {
   stored = step-stored s x t step m.stored;
@@ -419,6 +467,9 @@ step-moment f xs s x t m step = record {
   owned = all-append (IsOwned f) xs (x ∷ []) m.owned (owned-end f xs s x t m step, tt);
   others = pairwise-end TakesOthers xs x m.others (others-end f xs s x t m step);
   gone = all-append (λ x. IsGone x t.live) xs (x ∷ []) (all-one (λ y. IsGone y s.live) (λ y. IsGone y t.live) (gone-stays f xs s x t step) xs m.gone) (gone-own s x t step, tt);
+  over = all-append (λ x. IsOver f.vars x.group) xs (x ∷ []) m.over (over-end f s x t m.stored.formula m.vars step, tt);
+  few = let less = few-end s x t step in omega (arith, less, m.few);
+  within = all-append (λ x. x.bound ≤ f.vars) xs (x ∷ []) m.within (within-end f s x t m.vars step, tt);
   apart = pairwise-end StandApart xs x m.apart (all-one (λ y. IsGone y s.live) (λ y. StandApart y x) (apart-end s x t step) xs m.gone);
 }
 

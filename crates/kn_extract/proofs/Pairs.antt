@@ -16,7 +16,7 @@ use Rattle.kn_store.proofs.Public.{all-one, all-two, rises}
 use Rattle.kn_guess.specs.Guesses.{joins, joined, candidates, pair_group, IsPairGuess}
 use Rattle.kn_extract.specs.Extractions.{Found, IsPairTaken}
 use Rattle.kn_extract.proofs.Steps.{IsStep, named_in, go}
-use Rattle.kn_extract.proofs.Seeds.{named-from, has-names, any-kept}
+use Rattle.kn_extract.proofs.Seeds.{named-from, has-names, any-kept, any-some}
 use Rattle.kn_extract.proofs.Lists.{and-both, filter-yes, filter-no, own-has, rises-different}
 
 -- what each literal of a list does to a count
@@ -402,6 +402,15 @@ pair-named cs a b e = named-from cs (is_pair_of a b) a.variable (λ c k. at c k)
         let q = and_parts (has c.lits a) (has c.lits b) p.1 in
         has-names (named c) a (has-right (option_to_list c.guard) c.lits a q.0)
 
+pair-some : (s : Stored) (start : ℕ) (g : Gathered) (ids : List ℕ) → IsPairGuess s start g ids → 1 ≤ length g.taken
+pair-some s start g ids h = at g.border refl
+  where
+    at : (lits : List Literal) → g.border ≡ lits → 1 ≤ length g.taken
+    at [] e = absurd (let low = subst (λ z. 3 ≤ length z) e h.three in omega (arith, low))
+    at (l ∷ lits) e =
+        let m = another g.border (pair-different s start g ids h) h.three l in
+        any-some (is_pair_of l m.0) g.taken (pair-each s start g ids h l m.0 (ap (λ z. has z l) e ∙ (own-has (l ∷ lits)).0) m.1 m.2)
+
 pub pair-step : (s : Stored) (start : ℕ) (x : Found) (t : Stored) → IsFormula (problem_of s) → IsPairTaken s start x t → IsStep s x t
 pair-step s start x t fits h =
     let g = x.group in
@@ -417,10 +426,13 @@ pair-step s start x t fits h =
           (λ c e. (and_parts (is_clause c) (is_pair c.lits) (and_parts (is_binary c) (list_all (has g.border) c.lits) e).0).0) (constraints_of (chosen (is_covered g.border) s.live)) (go (is_covered g.border) s.live);
       apart = λ c e. none-among g.aux h.guess.aux (named c);
       known = all-one (λ l. has g.border l ≡ true) (IsKnown s.vars) (λ l e. All-has (IsKnown s.vars) (joined cs first.lits (candidates s.vars)) l all_known (sym (h.guess.members l) ∙ e)) g.border (own-has g.border);
+      ascends = h.guess.ascends;
       different = different;
       next = h.next;
       ids = h.guess.ids_are;
+      some = pair-some s start g x.ids h.guess;
       low = omega (arith, h.bound, h.guess.three);
+      high = omega (arith, h.bound);
       aux_free = λ v i. absurd (never-among g.aux v h.guess.aux i);
       aux_named = λ v i. absurd (never-among g.aux v h.guess.aux i);
       border_named = all-one (λ l. has g.border l ≡ true) (λ l. named_in cs l.variable ≡ true)

@@ -1,5 +1,5 @@
 -- The group of a seed is a step.
-use Rattle.std.proofs.Common.{◌≡◌, ℕ, ◌<◌, ◌==◌, Bool, true, false, not, cond, ◌&&◌, ◌||◌, List, [], ◌∷◌, map, filter, refl, sym, ap, ap₂, subst, ◌∙◌, inl, inr, arith, true≢false}
+use Rattle.std.proofs.Common.{◌≡◌, ℕ, ◌+◌, ◌≤◌, ◌<◌, ◌==◌, Bool, true, false, not, cond, ◌&&◌, ◌||◌, List, [], ◌∷◌, length, map, filter, refl, sym, ap, ap₂, subst, ◌∙◌, inl, inr, arith, true≢false}
 use Rattle.std.specs.Prelude.{◌⊎◌}
 use Rattle.std.specs.List.{list_any, AllByRecursion}
 use Rattle.std.proofs.lemmas.Bool.{and_parts, or_cases, or_left, or_right}
@@ -123,6 +123,16 @@ any-kept f test (p ∷ ps) e = at (test p.constraint) e (λ k. any-kept f test p
     at true e more = here (or_cases (f p.constraint) (list_any f (constraints_of (chosen test ps))) e) more
     at false e more = or_right (f p.constraint) (list_any f (constraints_of ps)) (more e)
 
+-- a border has clauses in which it stands
+pub any-some : {X : Type 0} (f : X → Bool) (xs : List X) → list_any f xs ≡ true → 1 ≤ length xs
+any-some f [] e = absurd (true≢false (sym e))
+any-some f (x ∷ xs) e = omega arith
+
+border-some : (taken : List Bounded) (set : List ℕ) (border : List Literal) → IsBorder taken set border → 3 ≤ length border → 1 ≤ length taken
+border-some taken set [] is low = absurd (omega (arith, low))
+border-some taken set (l ∷ border) is low =
+    any-some (λ c. has (named c) l) taken (and_parts (stands taken l) (not (is_among set l.variable)) (sym (is.1 l) ∙ (own-has (l ∷ border)).0)).0
+
 pub seed-step : (s : Stored) (seed : ℕ) (x : Found) (t : Stored) → IsFormula (problem_of s) → IsSeedTaken s seed x t → IsStep s x t
 seed-step s seed x t fits h =
     let g = x.group in
@@ -135,10 +145,13 @@ seed-step s seed x t fits h =
       clauses = seed-clauses s seed g.aux free h.guess.least;
       apart = λ c e. any-none (λ l. is_among g.aux l.variable) (named c) e;
       known = border-known s.vars g.aux g.taken g.border (subst (AllByRecursion (Fits s.vars)) (sym h.guess.taken) (keep (Fits s.vars) (λ p. touches g.aux p.constraint) s.live fits)) h.guess.border;
+      ascends = h.guess.border.0;
       different = rises-different g.border (rises (map (λ l. l.variable) g.border) h.guess.border.0);
       next = h.next;
       ids = h.guess.ids_are;
+      some = border-some g.taken g.aux g.border h.guess.border h.guess.low;
       low = h.range.0;
+      high = h.range.1;
       aux_free = least-free cs seed g.aux free h.guess.least;
       aux_named = least-named cs seed g.aux (seed-named cs seed h.guess.starts) h.guess.least;
       border_named = all-one (λ l. has g.border l ≡ true) (λ l. named_in cs l.variable ≡ true)

@@ -1,7 +1,8 @@
 -- One step of an extraction, and a run of them, keep models both ways.
-use Rattle.std.proofs.Common.{◌≡◌, ℕ, ◌+◌, ◌-◌, ◌≤◌, ◌<◌, ◌==◌, Bool, true, false, not, cond, ◌||◌, List, [], ◌∷◌, ◌++◌, length, filter, Option, None, Some, IfSome, refl, sym, ap, subst, ◌∙◌, inl, inr, arith}
+use Rattle.std.proofs.Common.{◌≡◌, ℕ, ◌+◌, ◌-◌, ◌≤◌, ◌<◌, ◌==◌, Bool, true, false, not, cond, ◌||◌, List, [], ◌∷◌, ◌++◌, length, map, filter, Option, None, Some, IfSome, refl, sym, ap, subst, ◌∙◌, inl, inr, arith}
 use Rattle.std.specs.Prelude.{◌⊎◌, option_to_list}
 use Rattle.std.specs.List.{list_any, AllByRecursion}
+use Rattle.std.specs.List.Sorted.{IsStrictlyIncreasing}
 use Rattle.std.proofs.lemmas.Bool.{or_parts, cond-true, cond-false, cases_lt}
 use Rattle.std.proofs.lemmas.List.{get_or_past}
 use Rattle.std.proofs.lemmas.List.FromFn.{length-map-range_with_len}
@@ -89,10 +90,13 @@ pub record IsStep (s : Stored) (x : Found) (t : Stored) : Type 0 where
   pub clauses : AllByRecursion (λ c. is_clause c ≡ true) (constraints_of (chosen test s.live))
   pub apart : (c : Bounded) → test c ≡ false → AllByRecursion (λ l. is_among x.group.aux l.variable ≡ false) (named c)
   pub known : AreKnown s.vars x.group.border
+  pub ascends : IsStrictlyIncreasing (map (λ l. l.variable) x.group.border)
   pub different : AreDifferent x.group.border
   pub next : t ≡ replaced s test (klause_of x)
   pub ids : x.ids ≡ ids_of (chosen test s.live)
+  pub some : 1 ≤ length x.group.taken
   pub low : 2 ≤ x.bound
+  pub high : x.bound + 1 ≤ length x.group.border
   pub aux_free : (v : ℕ) → is_among x.group.aux v ≡ true → in_klause (constraints_of s.live) v ≡ false
   pub aux_named : (v : ℕ) → is_among x.group.aux v ≡ true → named_in (constraints_of s.live) v ≡ true
   pub border_named : AllByRecursion (λ l. named_in (constraints_of s.live) l.variable ≡ true) x.group.border

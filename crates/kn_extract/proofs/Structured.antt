@@ -1,19 +1,22 @@
 -- How the groups of a whole extraction lie, and what its models make true.
-use Rattle.std.proofs.Common.{◌≡◌, ℕ, ◌+◌, ◌==◌, Bool, true, false, not, ◌||◌, List, [], ◌∷◌, ◌++◌, length, map, filter, Option, Some, None, refl, sym, ap, subst, ◌∙◌, inl, inr, true≢false}
+use Rattle.std.proofs.Common.{◌≡◌, ℕ, ◌+◌, ◌≤◌, ◌==◌, Bool, true, false, not, ◌||◌, List, [], ◌∷◌, ◌++◌, length, map, filter, Option, Some, None, refl, sym, ap, subst, ◌∙◌, inl, inr, arith, true≢false}
 use Rattle.std.specs.Prelude.{◌⊎◌}
 use Rattle.std.specs.List.{list_any, flat_map, range_with_len, AllByRecursion}
 use Rattle.std.proofs.lemmas.Bool.{or_cases, eqb-true}
+use Rattle.std.proofs.lemmas.List.{length-map}
 use Rattle.std.proofs.lemmas.List.Folds.{list_any-append}
 use Rattle.kn_logic.specs.Constraints.{Bounded, Holds}
 use Rattle.kn_logic.specs.Formulas.{Problem, IsFormula, Satisfies}
 use Rattle.kn_logic.specs.Groups.{is_among}
 use Rattle.kn_store.specs.Stores.{Numbered, Stored, constraints_of, constraint_at, problem_of}
-use Rattle.kn_store.proofs.Public.{all-one, all-two, from-map, to-map, all-pass, IsOwn, own}
+use Rattle.kn_store.proofs.Public.{all-one, all-two, from-map, to-map, all-filter, IsOwn, own}
+use Rattle.kn_format.specs.Grammar.{highest_bound}
+use Rattle.kn_format.specs.Texts.{IsWithinLimits}
 use Rattle.kn_extract.specs.Extractions.{Found, klause_of, IsSeedTaken, IsPairTaken, IsExtraction, numbered, stored_of}
 use Rattle.kn_extract.specs.Structure.{ids_taken, IsRemainder, IsOwned, IsClear, HoldTaken}
 use Rattle.kn_extract.proofs.Seeds.{seed-step}
 use Rattle.kn_extract.proofs.Pairs.{pair-step, Some-inj}
-use Rattle.kn_extract.proofs.Moments.{IsMoment, IsGone, unused, klauses, tries-moment, start-moment, of-numbered, numbered-rises, all-front, all-back, constraints-append, all-unfilter}
+use Rattle.kn_extract.proofs.Moments.{IsMoment, IsGone, unused, klauses, tries-moment, start-moment, of-numbered, numbered-rises, all-front, all-back, constraints-append, all-unfilter, all-append}
 
 pub at-end : (f last : Problem) (found : List Found) → IsFormula f → (e : IsExtraction f found last) → IsMoment f found e.rest
 at-end f last found fits e = subst (λ z. IsMoment f z e.rest) (sym e.found_are)
@@ -97,3 +100,20 @@ all-hold f last found values fits e h taken =
     by : (p : Numbered) → IsOwn (numbered 0 f.constraints) p → (not (is_among (ids_taken found) p.id) ≡ true → Holds values p.constraint) → (t : Bool) → is_among (ids_taken found) p.id ≡ t → Holds values p.constraint
     by p o k true i = taken-one (Holds values) f found p.id p.constraint (at-end f last found fits e).owned taken i o
     by p o k false i = k (ap not i)
+
+-- ---- limits
+
+pub limits-at-end : (f last : Problem) (found : List Found) → IsFormula f → IsExtraction f found last → IsWithinLimits f → IsWithinLimits last
+limits-at-end f last found fits e h =
+    let m = at-end f last found fits e in
+    let r = remainder f last found fits e in
+    let small : (c : Bounded) → Type 0 = λ c. c.bound ≤ highest_bound in
+    let long : length last.constraints ≡ length e.rest.live = ap (λ k. length k.constraints) e.last_is ∙ length-map e.rest.live (λ p. p.constraint) in
+    let rest = to-map (λ p. p.constraint) small (unused f found) (all-filter (λ p. small p.constraint) (λ p. not (is_among (ids_taken found) p.id)) (numbered 0 f.constraints)
+    (from-map (λ p. p.constraint) small (numbered 0 f.constraints) (subst (AllByRecursion small) (sym (of-numbered 0 f.constraints)) h.bounds))) in
+    let came = to-map klause_of small found (all-one (λ x. x.bound ≤ f.vars) (λ x. x.bound ≤ highest_bound) (λ x k. omega (arith, k, h.vars)) found m.within) in
+    record {
+      vars = omega (arith, r.vars, h.vars);
+      count = omega (arith, long, m.few, h.count);
+      bounds = subst (AllByRecursion small) (sym r.constraints) (all-append small (constraints_of (unused f found)) (map klause_of found) rest came);
+    }

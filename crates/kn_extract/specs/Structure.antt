@@ -1,6 +1,7 @@
 -- How the groups of an extraction lie to one another, and to the formula that remains.
-use Rattle.std.specs.Prelude.{ℕ, ◌≡◌, not, Bool, true, false, List, [], ◌∷◌, ◌++◌, map, filter, Some}
+use Rattle.std.specs.Prelude.{ℕ, ◌≡◌, ◌≤◌, not, Bool, true, false, List, [], ◌∷◌, ◌++◌, map, filter, Some}
 use Rattle.std.specs.List.{AllByRecursion, flat_map}
+use Rattle.kn_logic.specs.Literals.{AreKnown}
 use Rattle.kn_logic.specs.Constraints.{Bounded, named, Holds}
 use Rattle.kn_logic.specs.Formulas.{Problem}
 use Rattle.kn_logic.specs.Groups.{Gathered, is_among}
@@ -42,6 +43,11 @@ pub record IsForeign (variables : List ℕ) (g : Gathered) : Type 0 where
 -- the auxiliary variables of each of two groups stand in it alone
 abbrev pub StandApart : Found → Found → Type 0
 StandApart x y = IsForeign x.group.aux y.group × IsForeign y.group.aux x.group
+
+-- The variables of the group are from 1 to this number.
+pub record IsOver (vars : ℕ) (g : Gathered) : Type 0 where
+  pub aux : AllByRecursion (λ v. (1 ≤ v) × (v ≤ vars)) g.aux
+  pub border : AreKnown vars g.border
 
 -- all clauses of all groups hold
 abbrev pub HoldTaken : List Bool → List Found → Type 0

@@ -6,5 +6,6 @@ returns c = record {
   owned = λ f last found fits e. (at-end f last found fits e).owned;
   others = λ f last found fits e. (at-end f last found fits e).others;
   clear = clear-at-end;
+  over = λ f last found fits e. (at-end f last found fits e).over;
   apart = λ f last found fits e. (at-end f last found fits e).apart;
 }
