@@ -1,27 +1,24 @@
 -- What the buckets of a group do to the values: its clauses become true, those of other groups stay so, and so does
 -- what remains of the formula.
-use Rattle.std.proofs.Common.{ℕ, zero, suc, ◌≡◌, ◌+◌, ◌≤◌, ◌<◌, ◌==◌, Bool, true, false, not, cond, ◌||◌, List, [], ◌∷◌, ◌++◌, length, map, Option, None, Some, refl, sym, ap, ap₂, subst, ◌∙◌, inl, inr, arith, true≢false}
-use Rattle.std.specs.Prelude.{◌⊎◌, take, slice_get, reverse, slice_index, option_to_list, IfSome}
-use Rattle.std.specs.List.{list_any, flat_map, AllByRecursion}
+use Rattle.std.proofs.Common.{ℕ, zero, suc, ◌≡◌, ◌+◌, ◌≤◌, ◌==◌, Bool, true, false, not, cond, ◌||◌, List, [], ◌∷◌, ◌++◌, map, Option, None, Some, refl, sym, ap, ap₂, subst, ◌∙◌, inl, inr, arith, true≢false}
+use Rattle.std.specs.Prelude.{◌⊎◌, option_to_list, IfSome}
+use Rattle.std.specs.List.{list_any, AllByRecursion}
 use Rattle.std.proofs.lemmas.Bool.{cond-true, cond-false, eq-eqb, eqb-true, or_cases, or_left, or_right, or_parts}
-use Rattle.std.proofs.lemmas.List.Folds.{list_any-append}
-use Rattle.kn_logic.specs.Literals.{Literal, has, names, AreKnown, places}
+use Rattle.kn_logic.specs.Literals.{Literal, has, AreKnown, places}
 use Rattle.kn_logic.specs.Assignments.{value_of, is_true, true_places}
-use Rattle.kn_logic.specs.Constraints.{Bounded, klause, named, Holds, IsOff, Fits}
-use Rattle.kn_logic.specs.Formulas.{Problem, IsFormula, Satisfies}
-use Rattle.kn_logic.specs.Groups.{Gathered, is_among, IsGroup, IsPairGroup, IsCovered}
+use Rattle.kn_logic.specs.Constraints.{Bounded, Holds, IsOff, Fits}
+use Rattle.kn_logic.specs.Groups.{Gathered, is_among, IsCovered}
 use Rattle.kn_logic.proofs.Public.{All-has}
 use Rattle.kn_diagram.specs.Diagrams.{with_value, is_true_by, function_of}
 use Rattle.kn_diagram.specs.Wide.{Ignores}
-use Rattle.kn_quant.specs.Eliminations.{Eliminated, IsEliminationOf, steps_of}
-use Rattle.kn_quant.specs.Runs.{Function, Step, all_joins, all_whole, Runs, clause_function, CanHold, AgreeBut}
+use Rattle.kn_quant.specs.Eliminations.{Eliminated, steps_of}
+use Rattle.kn_quant.specs.Runs.{Function, Step, all_joins, all_whole, Runs, clause_function, AgreeBut}
 use Rattle.kn_quant.specs.Rebuilt.{rebuilt}
 use Rattle.kn_quant.proofs.Public.{AreTrue, holds-run, rebuilt-hold, rebuilt-kept}
-use Rattle.kn_extract.specs.Extractions.{Found, klause_of, listed, AgreeOff}
-use Rattle.kn_extract.specs.Structure.{IsClear, IsOver, IsForeign, StandApart, Pairwise}
-use Rattle.kn_extract.specs.Kept.{Took, IsTaken, IsEliminated, found_of}
+use Rattle.kn_extract.specs.Structure.{IsClear, IsOver, IsForeign}
+use Rattle.kn_extract.specs.Kept.{Took, IsTaken, IsEliminated}
 use Rattle.kn_rebuild.specs.Rebuilding.{AreAlike, IsByBucket, IsDone, buckets_in}
-use Rattle.kn_rebuild.proofs.Ignoring.{same-value, ignores-set, buckets-ignore, buckets-among, rebuilt-by-rule, later-stay, AreApart}
+use Rattle.kn_rebuild.proofs.Ignoring.{same-value, buckets-ignore, buckets-among, rebuilt-by-rule, later-stay, AreApart}
 
 -- ---- the run of a group that was taken
 

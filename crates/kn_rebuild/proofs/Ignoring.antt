@@ -1,14 +1,13 @@
 -- Functions that ignore a variable, and what a run makes of them.
 use Rattle.std.proofs.Common.{ℕ, ◌≡◌, ◌==◌, Bool, true, false, ◌&&◌, ◌||◌, cond, List, [], ◌∷◌, ◌++◌, refl, sym, ap, ap₂, subst, ◌∙◌, inl, inr, true≢false}
-use Rattle.std.specs.Prelude.{◌⊎◌}
 use Rattle.std.specs.List.{AllByRecursion}
-use Rattle.std.proofs.lemmas.Bool.{cond-true, cond-false, eq-eqb, eqb-true, or_left, or_right, or_parts}
+use Rattle.std.proofs.lemmas.Bool.{cond-true, cond-false, eq-eqb, eqb-true, or_left, or_right}
 use Rattle.kn_logic.specs.Groups.{is_among}
 use Rattle.kn_logic.proofs.Public.{All-append}
 use Rattle.kn_diagram.specs.Diagrams.{with_value}
 use Rattle.kn_diagram.specs.Wide.{Ignores}
 use Rattle.kn_quant.specs.Quantified.{some_value}
-use Rattle.kn_quant.specs.Runs.{Function, Step, both, whole, Splits, Empties, IsTurn, Runs, AgreeBut}
+use Rattle.kn_quant.specs.Runs.{Function, Step, both, whole, Splits, Empties, Runs, AgreeBut}
 use Rattle.kn_quant.specs.Rebuilt.{rebuilt}
 use Rattle.kn_rebuild.specs.Rebuilding.{IsByBucket}
 

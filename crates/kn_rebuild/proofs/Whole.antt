@@ -1,26 +1,26 @@
 -- One group after another: those before it stay done, and at the end all clauses hold.
-use Rattle.std.proofs.Common.{ℕ, zero, suc, ◌≡◌, ◌+◌, ◌-◌, ◌≤◌, ◌<◌, ◌==◌, Bool, true, false, cond, ◌||◌, List, [], ◌∷◌, ◌++◌, length, map, get_or, Option, None, Some, refl, sym, ap, ap₂, subst, ◌∙◌, inl, inr, arith, true≢false}
-use Rattle.std.specs.Prelude.{◌⊎◌, take, slice_index, reverse, IfSome}
-use Rattle.std.specs.List.{list_any, flat_map, AllByRecursion}
+use Rattle.std.proofs.Common.{ℕ, zero, suc, ◌≡◌, ◌+◌, ◌-◌, ◌≤◌, ◌<◌, ◌==◌, Bool, true, false, cond, ◌||◌, List, [], ◌∷◌, ◌++◌, length, map, get_or, Option, None, Some, refl, sym, ap₂, subst, ◌∙◌, inl, inr, arith, true≢false}
+use Rattle.std.specs.Prelude.{take, slice_index, reverse}
+use Rattle.std.specs.List.{list_any, AllByRecursion}
 use Rattle.std.specs.Option.{is_none}
-use Rattle.std.proofs.lemmas.Bool.{eq-eqb, eqb-true, or_parts, and_parts}
+use Rattle.std.proofs.lemmas.Bool.{eqb-true, or_parts, and_parts}
 use Rattle.std.proofs.lemmas.List.{get_or-reverse, length-reverse, length-map, take_more}
 use Rattle.std.proofs.lemmas.List.Folds.{list_any-append}
 use Rattle.std.proofs.lemmas.List.Elements.{All-from_recursion}
 use Rattle.kn_logic.specs.Literals.{Literal, AreKnown, places}
-use Rattle.kn_logic.specs.Assignments.{value_of, is_true, true_places}
-use Rattle.kn_logic.specs.Constraints.{Bounded, is_clause, Holds, IsOff}
-use Rattle.kn_logic.specs.Formulas.{Problem, IsFormula, Satisfies}
-use Rattle.kn_logic.specs.Groups.{Gathered, is_among, IsGroup}
+use Rattle.kn_logic.specs.Assignments.{value_of, is_true}
+use Rattle.kn_logic.specs.Constraints.{Bounded, is_clause, Holds}
+use Rattle.kn_logic.specs.Formulas.{Satisfies}
+use Rattle.kn_logic.specs.Groups.{Gathered, is_among}
 use Rattle.kn_logic.proofs.Public.{All-append}
 use Rattle.kn_diagram.specs.Diagrams.{Table, IsNode, is_true_by, function_of}
 use Rattle.kn_quant.specs.declared.stage.Bucket.{Bucket}
 use Rattle.kn_quant.specs.Eliminations.{Eliminated, IsEliminationOf, buckets_of, steps_of}
-use Rattle.kn_quant.specs.Runs.{Function, Step, Runs, clause_function, order_of}
+use Rattle.kn_quant.specs.Runs.{clause_function, order_of}
 use Rattle.kn_quant.specs.Rebuilt.{rebuilt}
 use Rattle.kn_quant.proofs.Public.{one-run}
 use Rattle.kn_store.proofs.Public.{Rises, rises, from-map}
-use Rattle.kn_extract.specs.Extractions.{Found, klause_of, listed, AgreeOff}
+use Rattle.kn_extract.specs.Extractions.{Found, klause_of, listed}
 use Rattle.kn_extract.specs.Structure.{IsClear, IsOver, StandApart, Pairwise, HoldTaken}
 use Rattle.kn_extract.specs.Kept.{Took, Extracted, IsTaken, IsExtracted, IsEliminated, found_of}
 use Rattle.kn_rebuild.specs.Rebuilding.{AreAlike, IsByBucket, AreByRule, IsDone, IsPartly, buckets_in, IsOrderWithin, IsBucketWithin}

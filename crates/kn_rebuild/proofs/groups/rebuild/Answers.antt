@@ -1,5 +1,4 @@
-use Rattle.std.proofs.Common.{length, ◌≡◌, ◌<◌, ◌≤◌, sym, ap, ◌∙◌, subst, get_or, map, arith}
-use Rattle.std.specs.List.{AllByRecursion}
+use Rattle.std.proofs.Common.{length, ◌<◌, ◌≤◌, sym, ap, ◌∙◌, subst, get_or, map, arith}
 use Rattle.std.proofs.lemmas.List.Elements.{All-from_recursion}
 use Rattle.kn_logic.specs.Constraints.{Holds}
 use Rattle.kn_extract.specs.Extractions.{klause_of}
