@@ -1,0 +1,9 @@
+mod Lists
+mod Truth
+mod Steps
+mod Seeds
+mod Pairs
+mod Unique
+mod Moments
+mod Structured
+mod Whole

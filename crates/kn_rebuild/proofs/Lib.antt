@@ -1,0 +1,4 @@
+mod Ignoring
+mod Setting
+mod Grouping
+mod Whole

@@ -1,0 +1,2 @@
+pub mod Rebuilding
+pub use Rattle.kn_extract.specs.Kept
