@@ -26,3 +26,6 @@ use std::alloc::AllocError;
 
 /// Want of memory.
 pub type NoMemory = AllocError;
+
+#[cfg(test)]
+mod tests;
