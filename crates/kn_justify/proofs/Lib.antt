@@ -1,0 +1,9 @@
+pub mod ArmLemmas
+pub mod StartLemmas
+pub mod SideLemmas
+pub mod GrowthLemmas
+pub mod HintLemmas
+pub mod SettleLemmas
+pub mod DefinitionLemmas
+pub mod DeletionLemmas
+pub mod ClosingLemmas

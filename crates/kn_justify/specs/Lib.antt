@@ -1,0 +1,5 @@
+pub mod Arms
+pub mod Growth
+pub mod Closings
+pub mod Definitions
+pub mod Names

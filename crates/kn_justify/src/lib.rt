@@ -1,0 +1,7 @@
+//! Proofs that a group of clauses makes its klause: the lines that end with the klause in place of the clauses.
+#![tactic(auto)]
+
+mod closing;
+mod defining;
+mod name;
+mod settling;
