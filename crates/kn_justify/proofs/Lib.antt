@@ -7,3 +7,6 @@ pub mod SettleLemmas
 pub mod DefinitionLemmas
 pub mod DeletionLemmas
 pub mod ClosingLemmas
+pub mod LookupLemmas
+pub mod ReachLemmas
+pub mod NameLemmas

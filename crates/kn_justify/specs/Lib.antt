@@ -3,3 +3,4 @@ pub mod Growth
 pub mod Closings
 pub mod Definitions
 pub mod Names
+pub mod Lemmas

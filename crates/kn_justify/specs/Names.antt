@@ -1,5 +1,6 @@
 -- Nodes of a diagram that variables of a proof are defined as.
-use Rattle.std.specs.Prelude.{ℕ, ◌≡◌, ◌≤◌, ◌+◌, ◌==◌, ◌++◌, true, if◌then◌else◌, List, [], ◌∷◌, Option, Some, None, option_map, slice_index}
+use Rattle.std.specs.Prelude.{ℕ, ◌≡◌, ◌≤◌, ◌+◌, ◌==◌, ◌++◌, true, if◌then◌else◌, List, [], ◌∷◌, Option, Some, None, option_map, slice_index, nat_eq}
+use Rattle.std.specs.Map.{lookup}
 use Rattle.kn_logic.specs.Literals.{Literal, IsKnown}
 use Rattle.kn_logic.specs.Constraints.{clause}
 use Rattle.kn_lines.specs.declared.line.Arm.{Arm}
@@ -16,8 +17,7 @@ use Rattle.kn_justify.specs.Definitions.{IsDefined}
 
 -- the name of a node, if it has one
 abbrev pub name_of : List (ℕ × Name) → ℕ → Option Name
-name_of [] node = None
-name_of (e ∷ names) node = if node == e.0 then Some e.1 else name_of names node
+name_of names node = lookup (nat_eq node) names
 
 -- the arm of a node: the constants for the constants, the literal of its variable for a node that has a name, and none
 -- for any other

@@ -3,5 +3,9 @@
 
 mod closing;
 mod defining;
+mod lemmas;
 mod name;
+mod named;
 mod settling;
+
+pub use named::Named;
