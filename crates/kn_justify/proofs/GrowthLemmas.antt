@@ -20,7 +20,7 @@ use Rattle.kn_log.specs.Logs.{Logged}
 use Rattle.kn_log.specs.Written.{AddsSuch, LogsSuchNot, LogsSuch}
 use Rattle.kn_log.specs.declared.error.LogError.{LogError}
 use Rattle.kn_log.specs.declared.error.LogError.TheVariants.{Fault, Memory}
-use Rattle.kn_log.proofs.Public.{such-behind}
+use Rattle.kn_log.proofs.Public.{Adds-join, such-behind, such-not-behind}
 use Rattle.kn_justify.specs.Growth.{IsPlain, ArePlain, Grown}
 
 pub Grown-none : (s : ProofState) → Grown s s
@@ -105,3 +105,9 @@ such-grows old new w w' (Err e) h = such-grows-not old new w w' e h
 -- plain lines behind plain ones
 pub plain-behind : {T : Type 0} (old mid new : Logged) (w v u : Option (List ℕ)) (r : Result T LogError) → AddsSuch ArePlain old mid w v → LogsSuch ArePlain mid new v u r → LogsSuch ArePlain old new w u r
 plain-behind old mid new w v u r (front, p, h) last = such-behind ArePlain ArePlain front old mid new w v u r (λ back q. All-append _ front back p q) h last
+
+pub plain-behind-not : (old mid new : Logged) (w v u : Option (List ℕ)) (e : LogError) → AddsSuch ArePlain old mid w v → LogsSuchNot ArePlain mid new v u e → LogsSuchNot ArePlain old new w u e
+plain-behind-not old mid new w v u e (front, p, h) last = such-not-behind ArePlain ArePlain front old mid new w v u e (λ back q. All-append _ front back p q) h last
+
+pub plain-join : (old mid new : Logged) (w v u : Option (List ℕ)) → AddsSuch ArePlain old mid w v → AddsSuch ArePlain mid new v u → AddsSuch ArePlain old new w u
+plain-join old mid new w v u (a, p, h) (b, q, k) = (a ++ b, All-append _ a b p q, Adds-join a b old mid new w v u h k)

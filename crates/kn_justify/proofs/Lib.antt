@@ -10,3 +10,4 @@ pub mod ClosingLemmas
 pub mod LookupLemmas
 pub mod ReachLemmas
 pub mod NameLemmas
+pub mod KeptLemmas

@@ -1,5 +1,5 @@
 -- Nodes of a diagram that variables of a proof are defined as.
-use Rattle.std.specs.Prelude.{ℕ, ◌≡◌, ◌≤◌, ◌+◌, ◌==◌, ◌++◌, true, if◌then◌else◌, List, [], ◌∷◌, Option, Some, None, option_map, slice_index, nat_eq}
+use Rattle.std.specs.Prelude.{◌⊎◌, ℕ, ◌≡◌, ◌≤◌, ◌+◌, ◌==◌, ◌++◌, true, if◌then◌else◌, List, [], ◌∷◌, Option, Some, None, option_map, slice_index, nat_eq}
 use Rattle.std.specs.Map.{lookup}
 use Rattle.kn_logic.specs.Literals.{Literal, IsKnown}
 use Rattle.kn_logic.specs.Constraints.{clause}
@@ -59,6 +59,14 @@ IsNamed names node = 2 ≤ node → (n : Name) × (name_of names node ≡ Some n
 -- A node is a constant, or has a right name.
 abbrev pub HasName : ProofState → Table → List (ℕ × Name) → ℕ → Type 0
 HasName s d names node = 2 ≤ node → (n : Name) × (name_of names node ≡ Some n) × IsRightName s d names node n
+
+-- Each name that was there stays.
+abbrev pub AreKept : List (ℕ × Name) → List (ℕ × Name) → Type 0
+AreKept old new = (node : ℕ) (n : Name) → name_of old node ≡ Some n → name_of new node ≡ Some n
+
+-- Each name that has come is that of a node that is reached from this one.
+abbrev pub AreOfReached : Table → ℕ → List (ℕ × Name) → List (ℕ × Name) → Type 0
+AreOfReached d f old new = (node : ℕ) (n : Name) → name_of new node ≡ Some n → (name_of old node ≡ Some n) ⊎ (reaches d f node ≡ true)
 
 -- Each node that is reached from this one is a constant, or has a right name.
 abbrev pub HasNames : ProofState → Table → List (ℕ × Name) → ℕ → Type 0

@@ -6,6 +6,8 @@ mod defining;
 mod lemmas;
 mod name;
 mod named;
+mod naming;
 mod settling;
 
 pub use named::Named;
+pub use naming::name_nodes;
