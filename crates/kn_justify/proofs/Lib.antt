@@ -11,3 +11,4 @@ pub mod LookupLemmas
 pub mod ReachLemmas
 pub mod NameLemmas
 pub mod KeptLemmas
+pub mod PairLemmas

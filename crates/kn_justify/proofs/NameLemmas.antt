@@ -6,13 +6,14 @@ use Rattle.kn_lines.specs.declared.line.Arm.{Arm}
 use Rattle.kn_lines.specs.declared.line.Arm.TheVariants as arm
 use Rattle.kn_rules.specs.States.{ProofState}
 use Rattle.kn_rules.specs.Steps.{opposite, is_known_arm}
+use Rattle.kn_diagram.specs.declared.trace.Met.{Met}
 use Rattle.kn_diagram.specs.Diagrams.{Row, Table, IsTable, IsNode, row_in, depth_of, high_of, low_of}
 use Rattle.kn_diagram.specs.Widths.{reaches_in, reaches}
 use Rattle.kn_justify.specs.declared.name.Name.{Name}
-use Rattle.kn_justify.specs.Arms.{AreKnownArms}
+use Rattle.kn_justify.specs.Arms.{literals_of, AreKnownArms}
 use Rattle.kn_justify.specs.Growth.{Grown}
 use Rattle.kn_justify.specs.Definitions.{IsDefined}
-use Rattle.kn_justify.specs.Names.{name_of, arm_by, arm_at, IsRightName, IsNamed, HasName, HasNames, AreRight, pair_arms}
+use Rattle.kn_justify.specs.Names.{name_of, arm_by, arm_at, IsRightName, IsNamed, HasName, HasNames, AreRight, pair_arms, IsNamedMet}
 use Rattle.kn_justify.proofs.DefinitionLemmas.{defined-grows}
 use Rattle.kn_justify.proofs.ReachLemmas.{reaches-own, reaches-high, reaches-low, reached-all}
 
@@ -58,9 +59,29 @@ opposite_known vars arm.True h = refl
 opposite_known vars arm.False h = refl
 opposite_known vars (arm.Lit l) h = h
 
-pub pair-known : (s : ProofState) (d : Table) (names : List (ℕ × Name)) (u v w : ℕ) → HasName s d names u → HasName s d names v → HasName s d names w → AreKnownArms s.vars (pair_arms names u v w)
-pair-known s d names u v w hu hv hw =
-    (opposite_known s.vars (arm_at names u) (arm_known s d names u hu), (opposite_known s.vars (arm_at names v) (arm_known s d names v hv), (arm_known s d names w hw, tt)))
+pub pair-known : (s : ProofState) (d : Table) (names : List (ℕ × Name)) (m : Met) → IsNamedMet s d names m → AreKnownArms s.vars (pair_arms names m)
+pair-known s d names m h =
+    (opposite_known s.vars (arm_at names m.u) (arm_known s d names m.u h.u_named), (opposite_known s.vars (arm_at names m.v) (arm_known s d names m.v h.v_named), (arm_known s d names m.w h.w_named, tt)))
+
+some-literal : (l : Literal) (arms : List Arm) → literals_of (opposite (arm.Lit l) ∷ arms) ≡ [] → ⊥
+some-literal l arms e = cc
+
+-- where the first node is no constant, the lemma of an entry has a literal
+pub pair-filled : (s : ProofState) (d : Table) (names : List (ℕ × Name)) (m : Met) → HasName s d names m.u → 2 ≤ m.u → literals_of (pair_arms names m) ≡ [] → ⊥
+pair-filled s d names m h two e =
+    let (n, is, r) = h two in
+    some-literal n.lit (opposite (arm_at names m.v) ∷ arm_at names m.w ∷ [])
+    (subst (λ (a : Arm). literals_of (opposite a ∷ opposite (arm_at names m.v) ∷ arm_at names m.w ∷ []) ≡ []) (arm_named names m.u n two is) e)
+
+pub met-grows : (old new : ProofState) (d : Table) (names : List (ℕ × Name)) (m : Met) → Grown old new → IsNamedMet old d names m → IsNamedMet new d names m
+met-grows old new d names m g h = record {
+  u_there = h.u_there;
+  v_there = h.v_there;
+  w_there = h.w_there;
+  u_named = has-name-grows old new d names m.u g h.u_named;
+  v_named = has-name-grows old new d names m.v g h.v_named;
+  w_named = has-name-grows old new d names m.w g h.w_named;
+}
 
 -- a node that has right names where it is reached
 pub has-own : (s : ProofState) (d : Table) (names : List (ℕ × Name)) (f : ℕ) → HasNames s d names f → HasName s d names f

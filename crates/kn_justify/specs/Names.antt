@@ -9,7 +9,7 @@ use Rattle.kn_rules.specs.declared.given.Given.{Given}
 use Rattle.kn_rules.specs.States.{ProofState, live_at}
 use Rattle.kn_rules.specs.Steps.{opposite}
 use Rattle.kn_diagram.specs.declared.trace.Met.{Met}
-use Rattle.kn_diagram.specs.Diagrams.{Table, depth_of, high_of, low_of}
+use Rattle.kn_diagram.specs.Diagrams.{Table, IsNode, depth_of, high_of, low_of, high_at, low_at}
 use Rattle.kn_diagram.specs.Widths.{reaches}
 use Rattle.kn_justify.specs.declared.name.Name.{Name}
 use Rattle.kn_justify.specs.Arms.{literals_of}
@@ -88,8 +88,15 @@ IsUnit given names node None = node ≡ 1
 IsUnit given names node (Some id) = (2 ≤ node) × (live_at given id ≡ Some (clause (literals_of (arm_at names node ∷ []))))
 
 -- the arms of "not u, or not v, or w"
-abbrev pub pair_arms : List (ℕ × Name) → ℕ → ℕ → ℕ → List Arm
-pair_arms names u v w = opposite (arm_at names u) ∷ opposite (arm_at names v) ∷ arm_at names w ∷ []
+abbrev pub pair_arms : List (ℕ × Name) → Met → List Arm
+pair_arms names m = opposite (arm_at names m.u) ∷ opposite (arm_at names m.v) ∷ arm_at names m.w ∷ []
+
+-- the entry of the high nodes at a depth, and that of the low ones
+abbrev pub high_met : Table → ℕ → Met → Met
+high_met d depth m = record { u = high_at d depth m.u; v = high_at d depth m.v; w = high_at d depth m.w }
+
+abbrev pub low_met : Table → ℕ → Met → Met
+low_met d depth m = record { u = low_at d depth m.u; v = low_at d depth m.v; w = low_at d depth m.w }
 
 -- the id of a clause of the node's definition, where the node is one of the variable at this depth
 abbrev pub id_by : Option Name → ℕ → List ℕ
@@ -103,3 +110,12 @@ hint_at d names depth place node = if depth_of d node == depth then id_by (name_
 abbrev pub side_hints : Table → List (ℕ × Name) → ℕ → ℕ → ℕ → Met → List ℕ → List ℕ
 side_hints d names depth down up m child =
     hint_at d names depth down m.u ++ (hint_at d names depth down m.v ++ (child ++ hint_at d names depth up m.w))
+
+-- The three nodes of an entry are nodes of the diagram, and constants or with right names.
+pub record IsNamedMet (s : ProofState) (d : Table) (names : List (ℕ × Name)) (m : Met) : Type 0 where
+  pub u_there : IsNode d m.u
+  pub v_there : IsNode d m.v
+  pub w_there : IsNode d m.w
+  pub u_named : HasName s d names m.u
+  pub v_named : HasName s d names m.v
+  pub w_named : HasName s d names m.w

@@ -7,6 +7,7 @@ mod lemmas;
 mod name;
 mod named;
 mod naming;
+mod pairs;
 mod settling;
 
 pub use named::Named;
