@@ -12,3 +12,8 @@ pub mod ReachLemmas
 pub mod NameLemmas
 pub mod KeptLemmas
 pub mod PairLemmas
+pub mod PairIdLemmas
+pub mod PairLineLemmas
+pub mod PairGridLemmas
+pub mod PairCountLemmas
+pub mod PairGroupLemmas
