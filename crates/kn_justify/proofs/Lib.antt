@@ -17,3 +17,5 @@ pub mod PairLineLemmas
 pub mod PairGridLemmas
 pub mod PairCountLemmas
 pub mod PairGroupLemmas
+pub mod PairBorderLemmas
+pub mod PairClosingLemmas
