@@ -19,3 +19,4 @@ pub mod PairCountLemmas
 pub mod PairGroupLemmas
 pub mod PairBorderLemmas
 pub mod PairClosingLemmas
+pub mod PairTestLemmas

@@ -16,3 +16,6 @@ mod settling;
 pub use named::Named;
 pub use naming::name_nodes;
 pub use pair_groups::justify_pairs;
+
+#[cfg(test)]
+mod pair_tests;
