@@ -50,10 +50,10 @@ pub klause-steps : (s : ProofState) (lits : List Literal) (held : Held) (bound :
 klause-steps s lits held bound root known d h eb er =
     let lit : held.lit ≡ record { variable = root; positive = true } = positive-is held.lit h.is_held.positive ∙ ap (λ (v : ℕ). record { variable = v; positive = true }) (sym er) in
     let rooted : is_root (definition_of s) lits bound root ≡ true =
-        subst (λ (j : ℕ). is_root (definition_of s) lits j root ≡ true) (sym eb) (subst (λ (l : Literal). stands_for (definition_of s) lits (length lits - 1) (arm.Lit l) ≡ true) lit h.stands) in
+    subst (λ (j : ℕ). is_root (definition_of s) lits j root ≡ true) (sym eb) (subst (λ (l : Literal). stands_for (definition_of s) lits (length lits - 1) (arm.Lit l) ≡ true) lit h.stands) in
     let alone : is_unit (clause (held.lit ∷ [])) root ≡ true = subst (λ (l : Literal). is_unit (clause (l ∷ [])) root ≡ true) (sym lit) (same-refl (record { variable = root; positive = true })) in
     let root-known : is_known_variable s.vars root ≡ true =
-        subst (λ (v : ℕ). is_known_variable s.vars v ≡ true) (sym er) (and_from _ _ (le-leb 1 held.lit.variable h.is_held.known.0) (le-leb held.lit.variable s.vars h.is_held.known.1)) in
+    subst (λ (v : ℕ). is_known_variable s.vars v ≡ true) (sym er) (and_from _ _ (le-leb 1 held.lit.variable h.is_held.known.0) (le-leb held.lit.variable s.vars h.is_held.known.1)) in
     steps-at s lits bound root held.unit (clause (held.lit ∷ [])) (all-known s.vars lits known) root-known h.is_held.unit (all-different lits d) rooted alone
 
 -- what the closing line is of
@@ -64,7 +64,7 @@ pub group-steps : (old s : ProofState) (g : Gathered) (c : Bounded) (held : Held
 group-steps old s g c held lits root p grown known is h ec er =
     subst (λ (x : Bounded). IsOk (count s x.bound x.lits root held.unit)) (sym ec)
     (klause-steps s g.border held (length g.border - 1) root (known-grows old.vars s.vars g.border grown.vars (subst (AreKnown old.vars) is known)) (border-different g p)
-        (subst (λ (xs : List Literal). IsAllButOne s xs (Some held)) is h) refl er)
+    (subst (λ (xs : List Literal). IsAllButOne s xs (Some held)) is h) refl er)
 
 pub live-grown : (old new : ProofState) (cs : List Bounded) (ids : List ℕ) → Grown old new → AreUnder old.given cs ids → AreLive new.given ids
 live-grown old new cs ids g h = subst (λ given. AreLive given ids) (sym g.given) (live-more old.given g.help ids (under-live old.given cs ids h))

@@ -77,7 +77,7 @@ pub all-counted : (old new : ProofState) (l : Literal) (lits : List Literal) (al
 all-counted old new l lits all next n g d ea el h =
     let less : length (l ∷ lits) - 1 ≡ length lits = omega arith in
     let high : stands_for (definition_of new) lits (length (l ∷ lits) - 1) all.arm ≡ true =
-        subst (λ (j : ℕ). stands_for (definition_of new) lits j all.arm ≡ true) (sym less) (stands-stays (definition_of old) (definition_of new) lits (length lits) all.arm g.definition h.stands) in
+    subst (λ (j : ℕ). stands_for (definition_of new) lits j all.arm ≡ true) (sym less) (stands-stays (definition_of old) (definition_of new) lits (length lits) all.arm g.definition h.stands) in
     record {
       stands = subst (λ (a : Arm). stands_for (definition_of new) (l ∷ lits) (length (l ∷ lits)) a ≡ true) (sym ea)
           (node-stands (definition_of new) l lits (length (l ∷ lits)) n.lit all.arm arm.False (omega arith) (omega arith) d.positive d.definition high (false-stands (definition_of new) lits (length (l ∷ lits)) (omega arith)));
@@ -85,7 +85,7 @@ all-counted old new l lits all next n g d ea el h =
       lifted = subst (λ (a : Arm). Lifted new.given next.lifts.items (l ∷ lits) a) (sym ea)
           (subst (λ (ids : List ℕ). Lifted new.given ids (l ∷ lits) (arm.Lit n.lit)) (sym el)
           (lifted-more new.given l n.lit lits all.arm all.lifts.items ((n.id + 2) ∷ [])
-              (lifted-stays old.given new.given all.lifts.items lits all.arm (λ id c e. grown-live old new id c g e) h.lifted) (high-up new n l all.arm arm.False d)));
+          (lifted-stays old.given new.given all.lifts.items lits all.arm (λ id c e. grown-live old new id c g e) h.lifted) (high-up new n l all.arm arm.False d)));
     }
 
 -- the line of "all but one at most"
@@ -94,7 +94,7 @@ pub unit-ready : (old mid : ProofState) (pairs : List ((ℕ × ℕ) × ℕ)) (he
 unit-ready old mid pairs held n l lits all ids g d b p a e =
     subst (λ (xs : List ℕ). Refuted mid.given xs (arm.Lit n.lit ∷ [])) (sym e)
     (unit-refuted-by mid pairs held n l lits all.arm all.lifts.items d (held-grows old mid held g b.is_held) (paired-grows old mid pairs l lits g p)
-        (lifted-stays old.given mid.given all.lifts.items lits all.arm (λ id c f. grown-live old mid id c g f) a.lifted))
+    (lifted-stays old.given mid.given all.lifts.items lits all.arm (λ id c f. grown-live old mid id c g f) a.lifted))
 
 pub but-one-counted : (old mid new : ProofState) (l : Literal) (lits : List Literal) (held : Option Held) (n : Name) (all : All) (h : Held) → 0 < length lits → Grown old mid → Grown mid new → IsDefined mid n l (held_arm held) all.arm
     → IsAllButOne old lits held → IsAll old lits all → h.lit ≡ n.lit → live_at new.given h.unit ≡ Some (clause (n.lit ∷ [])) → IsAllButOne new (l ∷ lits) (Some h)

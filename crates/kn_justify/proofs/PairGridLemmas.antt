@@ -37,9 +37,9 @@ pub node-stands : (definition : ℕ → Option Definition) (l : Literal) (lits :
 node-stands definition l lits j n high low a b p e h k =
     let kind : cell_of (length (l ∷ lits)) 1 j ≡ cell.Inner = inner (length (l ∷ lits)) j a b in
     let led : led_to definition (variable_of (arm.Lit n)) ≡ Some (record { test = l; high = high; low = low }) =
-        ap (λ (t : Bool). led_to definition (cond t (Some n.variable) None)) p ∙ e in
+    ap (λ (t : Bool). led_to definition (cond t (Some n.variable) None)) p ∙ e in
     let goes : splits (stands_for definition lits) l j (record { test = l; high = high; low = low }) ≡ true =
-        or_left (is_same l l && (stands_for definition lits (j - 1) high && stands_for definition lits j low)) _ (and_from _ _ (same-refl l) (and_from _ _ h k)) in
+    or_left (is_same l l && (stands_for definition lits (j - 1) high && stands_for definition lits j low)) _ (and_from _ _ (same-refl l) (and_from _ _ h k)) in
     rw (kind, led) goes
 
 -- "true" stands for no node that can be false

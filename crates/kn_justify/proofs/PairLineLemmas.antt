@@ -96,7 +96,7 @@ lifted-stays old new ids lits a h (cs, e, f) = (cs, hinted-stays old new ids cs 
 -- the clause of two literals
 pair-forces : (l k : Literal) (given : List Given) (id : ℕ) → (live_at given id ≡ Some (clause (l ∷ k ∷ []))) ⊎ (live_at given id ≡ Some (clause (k ∷ l ∷ [])))
     → (c : List Bounded) × (hinted given (id ∷ []) ≡ Some c) × ((run : Option (List Literal)) → IsSound run → IsSound (run_on run c))
-        × ((run : Option (List Literal)) → IsSound run → Has run (arm.Lit (negated l)) → Has (run_on run c) (arm.Lit k))
+    × ((run : Option (List Literal)) → IsSound run → Has run (arm.Lit (negated l)) → Has (run_on run c) (arm.Lit k))
 pair-forces l k given id (inl e) =
     let h = live-settles (arm.Lit l ∷ arm.Lit k ∷ []) refl in
     (clause (l ∷ k ∷ []) ∷ [], rw e refl, h.sound, λ run s n. h.forces run (arm.Lit k) s (inr (n, inl (refl, tt))))
@@ -109,8 +109,8 @@ pairs-spread given pairs l [] h = ([], refl, spreads-none (arm.Lit l))
 pairs-spread given pairs l (k ∷ lits) ((id, e, live), more) =
     let (c, f, sound, forces) = pair-forces l k given id live in
     let (cs, g, rest) = pairs-spread given pairs l lits more in
-    let ids : option_to_list (id_of pairs l.variable k.variable) ≡ id ∷ [] = ap option_to_list e in
-    ( c ++ cs,
+    let ids : option_to_list (id_of pairs l.variable k.variable) ≡ id ∷ [] = ap option_to_list e in (
+      c ++ cs,
       subst (λ (xs : List ℕ). hinted given (xs ++ ids_with pairs l lits) ≡ Some (c ++ cs)) (sym ids) (hinted-append given (id ∷ []) (ids_with pairs l lits) c cs f g),
       spreads-more l k lits c cs sound forces rest,
     )
@@ -133,8 +133,8 @@ unit-refuted-by s pairs held n l lits a lifts d h p (ds, hd, lf) =
     let (us, ha, su) = held-settled s held h in
     let (bs, hb, sh) = high-up s n l (held_arm held) a d in
     let (cs, hc, sp) = pairs-spread s.given pairs l lits p in
-    let (es, he, sl) = low-up s n l (held_arm held) a d in
-    ( us ++ (bs ++ (cs ++ (ds ++ es))),
+    let (es, he, sl) = low-up s n l (held_arm held) a d in (
+      us ++ (bs ++ (cs ++ (ds ++ es))),
       five-hinted s.given (held_ids held) ((n.id + 2) ∷ []) (ids_with pairs l lits) lifts ((n.id + 3) ∷ []) us bs cs ds es ha hb hc hd he,
       unit-line n.lit l lits (held_arm held) a us bs cs ds es su sh sp lf sl,
     )

@@ -24,13 +24,16 @@ fn add(alloc: Global, f: &mut Formula, a: Lit, b: Lit) -> Result<(), NoMemory>
 
 // At most one and at least two of three variables.
 fn three(alloc: Global) -> Result<Formula, NoMemory>
-    ensures { IfOk result (λ f. f ≡ record { vars = 3; constraints =
-        clause (record { variable = 1; positive = false } ∷ record { variable = 2; positive = false } ∷ [])
-        ∷ clause (record { variable = 1; positive = false } ∷ record { variable = 3; positive = false } ∷ [])
-        ∷ clause (record { variable = 2; positive = false } ∷ record { variable = 3; positive = false } ∷ [])
-        ∷ clause (record { variable = 1; positive = true } ∷ record { variable = 2; positive = true } ∷ [])
-        ∷ clause (record { variable = 1; positive = true } ∷ record { variable = 3; positive = true } ∷ [])
-        ∷ clause (record { variable = 2; positive = true } ∷ record { variable = 3; positive = true } ∷ []) ∷ [] }) }
+    ensures { IfOk result (λ f. f ≡ record {
+      vars = 3;
+      constraints =
+          clause (record { variable = 1; positive = false } ∷ record { variable = 2; positive = false } ∷ [])
+          ∷ clause (record { variable = 1; positive = false } ∷ record { variable = 3; positive = false } ∷ [])
+          ∷ clause (record { variable = 2; positive = false } ∷ record { variable = 3; positive = false } ∷ [])
+          ∷ clause (record { variable = 1; positive = true } ∷ record { variable = 2; positive = true } ∷ [])
+          ∷ clause (record { variable = 1; positive = true } ∷ record { variable = 3; positive = true } ∷ [])
+          ∷ clause (record { variable = 2; positive = true } ∷ record { variable = 3; positive = true } ∷ []) ∷ [];
+    }) }
 {
     let mut f = Formula::new(alloc, 3);
     add(alloc, &mut f, Lit::new(1, false), Lit::new(2, false))?;
@@ -44,19 +47,22 @@ fn three(alloc: Global) -> Result<Formula, NoMemory>
 
 // At most one of 1, -2, 3, 4, -5 is false: clauses in any order, two of them twice.
 fn five(alloc: Global) -> Result<Formula, NoMemory>
-    ensures { IfOk result (λ f. f ≡ record { vars = 5; constraints =
-        clause (record { variable = 1; positive = true } ∷ record { variable = 4; positive = true } ∷ [])
-        ∷ clause (record { variable = 2; positive = false } ∷ record { variable = 1; positive = true } ∷ [])
-        ∷ clause (record { variable = 2; positive = false } ∷ record { variable = 4; positive = true } ∷ [])
-        ∷ clause (record { variable = 4; positive = true } ∷ record { variable = 2; positive = false } ∷ [])
-        ∷ clause (record { variable = 3; positive = true } ∷ record { variable = 1; positive = true } ∷ [])
-        ∷ clause (record { variable = 4; positive = true } ∷ record { variable = 3; positive = true } ∷ [])
-        ∷ clause (record { variable = 3; positive = true } ∷ record { variable = 2; positive = false } ∷ [])
-        ∷ clause (record { variable = 5; positive = false } ∷ record { variable = 1; positive = true } ∷ [])
-        ∷ clause (record { variable = 5; positive = false } ∷ record { variable = 2; positive = false } ∷ [])
-        ∷ clause (record { variable = 3; positive = true } ∷ record { variable = 5; positive = false } ∷ [])
-        ∷ clause (record { variable = 5; positive = false } ∷ record { variable = 4; positive = true } ∷ [])
-        ∷ clause (record { variable = 1; positive = true } ∷ record { variable = 3; positive = true } ∷ []) ∷ [] }) }
+    ensures { IfOk result (λ f. f ≡ record {
+      vars = 5;
+      constraints =
+          clause (record { variable = 1; positive = true } ∷ record { variable = 4; positive = true } ∷ [])
+          ∷ clause (record { variable = 2; positive = false } ∷ record { variable = 1; positive = true } ∷ [])
+          ∷ clause (record { variable = 2; positive = false } ∷ record { variable = 4; positive = true } ∷ [])
+          ∷ clause (record { variable = 4; positive = true } ∷ record { variable = 2; positive = false } ∷ [])
+          ∷ clause (record { variable = 3; positive = true } ∷ record { variable = 1; positive = true } ∷ [])
+          ∷ clause (record { variable = 4; positive = true } ∷ record { variable = 3; positive = true } ∷ [])
+          ∷ clause (record { variable = 3; positive = true } ∷ record { variable = 2; positive = false } ∷ [])
+          ∷ clause (record { variable = 5; positive = false } ∷ record { variable = 1; positive = true } ∷ [])
+          ∷ clause (record { variable = 5; positive = false } ∷ record { variable = 2; positive = false } ∷ [])
+          ∷ clause (record { variable = 3; positive = true } ∷ record { variable = 5; positive = false } ∷ [])
+          ∷ clause (record { variable = 5; positive = false } ∷ record { variable = 4; positive = true } ∷ [])
+          ∷ clause (record { variable = 1; positive = true } ∷ record { variable = 3; positive = true } ∷ []) ∷ [];
+    }) }
 {
     let mut f = Formula::new(alloc, 5);
     add(alloc, &mut f, Lit::new(1, true), Lit::new(4, true))?;
@@ -119,7 +125,8 @@ fn three_literals(rt: HostRuntime) -> Result<(), Fail> {
         return Err("not justified".into());
     };
     assert_eq!(rt; id, 25);
-    let text = "p kpf 3 6\nd -3 T F\nd -2 T 4\nr 5 0 13 3 9 14 0\nd -2 4 F\nd -1 5 6\nr 7 0 15 22 1 2 9 18 23 0\nk 2 -1 -2 -3 0 7 24\nx 1 2 3 0\n";
+    let text =
+        "p kpf 3 6\nd -3 T F\nd -2 T 4\nr 5 0 13 3 9 14 0\nd -2 4 F\nd -1 5 6\nr 7 0 15 22 1 2 9 18 23 0\nk 2 -1 -2 -3 0 7 24\nx 1 2 3 0\n";
     assert!(rt; proof.written() == text.as_bytes());
     Ok(())
 }
@@ -141,7 +148,8 @@ fn five_literals(rt: HostRuntime) -> Result<(), Fail> {
         return Err("not justified".into());
     };
     assert_eq!(rt; id, 49);
-    let text = "p kpf 5 12\nd -5 T F\nd 4 T 6\nr 7 0 19 11 15 20 0\nd 4 6 F\nd 3 7 8\nr 9 0 21 28 6 10 15 24 29 0\nd 3 8 F\nd -2 9 10\nr 11 0 30 37 7 3 9 15 24 33 38 0\nd -2 10 F\nd 1 11 12\nr 13 0 39 46 2 5 1 8 15 24 33 42 47 0\nk 4 1 -2 3 4 -5 0 13 48\nx 1 2 3 4 5 6 7 8 9 10 11 12 0\n";
+    let text =
+        "p kpf 5 12\nd -5 T F\nd 4 T 6\nr 7 0 19 11 15 20 0\nd 4 6 F\nd 3 7 8\nr 9 0 21 28 6 10 15 24 29 0\nd 3 8 F\nd -2 9 10\nr 11 0 30 37 7 3 9 15 24 33 38 0\nd -2 10 F\nd 1 11 12\nr 13 0 39 46 2 5 1 8 15 24 33 42 47 0\nk 4 1 -2 3 4 -5 0 13 48\nx 1 2 3 4 5 6 7 8 9 10 11 12 0\n";
     assert!(rt; proof.written() == text.as_bytes());
     Ok(())
 }

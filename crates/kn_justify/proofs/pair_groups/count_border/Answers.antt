@@ -50,7 +50,7 @@ pub count_all_but_one-requires-clause-but_one : goal.count_all_but_one-requires-
 count_all_but_one-requires-clause-but_one g c =
     subst (λ (xs : List Literal). IsAllButOne c.count_all.new.log.state xs c.loop-place.held) (sym c.split_at.ensures.back)
     (but-one-grows c.loop-place.log.state c.count_all.new.log.state (drop c.loop-place.place c.args.border.now) c.loop-place.held
-        (such-grows c.loop-place.log c.count_all.new.log _ _ c.count_all.result c.count_all.ensures.lines) c.loop-place.invariant.but_one)
+    (such-grows c.loop-place.log c.count_all.new.log _ _ c.count_all.result c.count_all.ensures.lines) c.loop-place.invariant.but_one)
 
 pub returns-in_err-count_all_but_one-clause-lines : goal.returns-in_err-count_all_but_one-clause-lines
 returns-in_err-count_all_but_one-clause-lines g c =

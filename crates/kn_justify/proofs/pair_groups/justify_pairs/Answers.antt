@@ -60,7 +60,7 @@ pub returns-clause-klause : goal.returns-clause-klause
 returns-clause-klause g c =
     klause-behind c.count_border.new.log.state c.close.new.log.state c.args.ids.now c.new-klause.result (pair_klause c.args.group.now) c.close.result
     (live-grown c.args.log.now.state c.count_border.new.log.state c.args.group.now.taken c.args.ids.now
-        (such-grows c.args.log.now c.count_border.new.log _ _ c.count_border.result c.count_border.ensures.lines) c.requires.live)
+    (such-grows c.args.log.now c.count_border.new.log _ _ c.count_border.result c.count_border.ensures.lines) c.requires.live)
     (klause-is c.args.group.now c.new-klause.result c.in_ok-from_slice.field-0.items c.border-border.result.now (length c.border-border.result.now - 1) c.new-klause.ensures refl c.in_ok-from_slice.ensures.items c.border-border.ensures.value)
     c.close.ensures.closed
 
@@ -77,6 +77,6 @@ pub returns-clause-kept : goal.returns-clause-kept
 returns-clause-kept g c = λ id x other live.
     such-keeps c.args.log.now c.close.new.log _ _ c.close.result (pair_klause c.args.group.now) c.args.ids.now id x
     (lines-behind c.new-klause.result (pair_klause c.args.group.now) c.args.ids.now c.args.log.now c.count_border.new.log c.close.new.log _ _ _ c.close.result
-        (klause-is c.args.group.now c.new-klause.result c.in_ok-from_slice.field-0.items c.border-border.result.now (length c.border-border.result.now - 1) c.new-klause.ensures refl c.in_ok-from_slice.ensures.items c.border-border.ensures.value)
-        c.in_ok-root.ensures.lines c.close.ensures.lines)
+    (klause-is c.args.group.now c.new-klause.result c.in_ok-from_slice.field-0.items c.border-border.result.now (length c.border-border.result.now - 1) c.new-klause.ensures refl c.in_ok-from_slice.ensures.items c.border-border.ensures.value)
+    c.in_ok-root.ensures.lines c.close.ensures.lines)
     other live
