@@ -12,3 +12,5 @@ pub mod ReachLemmas
 pub mod NameLemmas
 pub mod KeptLemmas
 pub mod PairLemmas
+pub mod EntryLemmas
+pub mod TraceLemmas

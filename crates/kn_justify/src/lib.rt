@@ -3,12 +3,14 @@
 
 mod closing;
 mod defining;
+mod joins;
 mod lemmas;
 mod name;
 mod named;
 mod naming;
 mod pairs;
 mod settling;
+mod side;
 
 pub use named::Named;
 pub use naming::name_nodes;
