@@ -14,3 +14,7 @@ pub mod KeptLemmas
 pub mod PairLemmas
 pub mod EntryLemmas
 pub mod TraceLemmas
+pub mod ChainLemmas
+pub mod UnitLemmas
+pub mod ReducedLemmas
+pub mod StageLemmas

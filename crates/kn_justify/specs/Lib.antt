@@ -4,3 +4,5 @@ pub mod Closings
 pub mod Definitions
 pub mod Names
 pub mod Lemmas
+pub mod Chains
+pub mod Stages

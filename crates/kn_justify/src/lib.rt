@@ -1,6 +1,7 @@
 //! Proofs that a group of clauses makes its klause: the lines that end with the klause in place of the clauses.
 #![tactic(auto)]
 
+mod clauses;
 mod closing;
 mod defining;
 mod joins;
@@ -9,8 +10,12 @@ mod name;
 mod named;
 mod naming;
 mod pairs;
+mod quantified;
 mod settling;
 mod side;
+mod units;
 
+pub use clauses::clause_unit;
 pub use named::Named;
 pub use naming::name_nodes;
+pub use units::{and_unit, exists_unit};
