@@ -4,6 +4,7 @@ use Rattle.std.specs.Prelude.{option_to_list}
 use Rattle.std.specs.Option.{is_some}
 use Rattle.std.proofs.lemmas.List.{append-nil}
 use Rattle.std.proofs.lemmas.Bool.{cond-true, cond-false, ne_eqb, eq-eqb, eqb-true, and_parts}
+use Rattle.std.proofs.lemmas.Option.{slice_get_within, slice_get_read, get_or_from_slice_get}
 use Rattle.kn_logic.proofs.Public.{All-push}
 use Rattle.kn_rules.specs.declared.given.Given.{Given}
 use Rattle.kn_rules.specs.States.{ProofState}
@@ -17,7 +18,7 @@ use Rattle.kn_justify.specs.declared.side.Side.TheVariants.{Left, Right}
 use Rattle.kn_justify.specs.Arms.{Settled, is_trivial}
 use Rattle.kn_justify.specs.Growth.{Grown}
 use Rattle.kn_justify.specs.Names.{arm_at, pair_arms, high_met, low_met}
-use Rattle.kn_justify.specs.Lemmas.{lemma_of, has_lemma, alone, IsJoined, AreJoined, IsReduced, AreReduced, AreCovered, HasParts}
+use Rattle.kn_justify.specs.Lemmas.{lemma_of, has_lemma, alone, IsJoined, AreJoined, IsReduced, AreReduced, AreCovered, HasParts, AreParted}
 use Rattle.kn_justify.proofs.HintLemmas.{trivial-settled, settled-grows}
 use Rattle.kn_justify.proofs.LookupLemmas.{lookup-holds}
 use Rattle.kn_justify.proofs.EntryLemmas.{first_same, found-joined, alone-high, alone-low}
@@ -166,10 +167,9 @@ accounted-at d variable halves before (m ∷ ms) (suc i) x h b e =
     subst (λ (bs : List Met). IsAccounted d variable halves bs x) (append_assoc before (m ∷ []) (take i ms))
     (accounted-at d variable halves (before ++ m ∷ []) ms i x h.1 (omega arith) e)
 
-pub has-parts : (d : Table) (variable : ℕ) (halves ms : List Met) (left right lemmas : List ((ℕ × ℕ) × Option ℕ)) (i : ℕ) (m : Met) → AreExplained (λ a b. a || b) d [] halves → AreAccounted d variable halves [] ms → AreCovered left halves → AreCovered right halves → AreCovered lemmas (take i ms)
-    → i < length ms → m ≡ get_or ms i m → HasParts d variable left right lemmas m
-has-parts d variable halves ms left right lemmas i m x h cl cr c b e =
-    let at = accounted-at d variable halves [] ms i m h b e in
+pub has-parts : (d : Table) (variable : ℕ) (halves ms : List Met) (left right : List ((ℕ × ℕ) × Option ℕ)) → AreExplained (λ a b. a || b) d [] halves → AreAccounted d variable halves [] ms → AreCovered left halves → AreCovered right halves → AreParted d variable left right ms
+has-parts d variable halves ms left right x h cl cr i m lemmas e c =
+    let at = accounted-at d variable halves [] ms i m h (slice_get_within ms i m e) (sym (get_or_from_slice_get ms i m m e)) in
     record {
       is_right = at.right;
       highs = λ k. covered-pair lemmas (take i ms) _ _ c (at.highs k);
@@ -180,8 +180,8 @@ has-parts d variable halves ms left right lemmas i m x h cl cr c b e =
       below = at.below;
     }
 
-pub accounted-one : (d : Table) (variable : ℕ) (halves ms : List Met) (i : ℕ) (m : Met) → AreAccounted d variable halves [] ms → i < length ms → m ≡ get_or ms i m → IsQuantified d variable m.u m.w
-accounted-one d variable halves ms i m h b e = (accounted-at d variable halves [] ms i m h b e).right
+pub parts-at : (d : Table) (variable : ℕ) (ms : List Met) (left right lemmas : List ((ℕ × ℕ) × Option ℕ)) (i : ℕ) (m : Met) → AreParted d variable left right ms → AreCovered lemmas (take i ms) → i < length ms → m ≡ get_or ms i m → HasParts d variable left right lemmas m
+parts-at d variable ms left right lemmas i m h c b e = h i m lemmas (slice_get_read ms (length ms) i m refl b e) c
 
 -- lemmas stay right while the state grows, and one more comes
 pub reduced-grow : (old new : ProofState) (d : Table) (names : List (ℕ × Name)) (variable : ℕ) (lemmas : List ((ℕ × ℕ) × Option ℕ)) → Grown old new → AreReduced old.given d names variable lemmas → AreReduced new.given d names variable lemmas

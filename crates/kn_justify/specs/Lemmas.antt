@@ -1,5 +1,5 @@
 -- The lemmas of the entries of traces, as they are noted by their pairs.
-use Rattle.std.specs.Prelude.{ℕ, ◌≡◌, ◌≤◌, ◌<◌, ◌⊎◌, ◌&&◌, ◌||◌, min, Bool, true, List, Option, nat_eq, option_to_list}
+use Rattle.std.specs.Prelude.{ℕ, ◌≡◌, ◌≤◌, ◌<◌, ◌⊎◌, ◌&&◌, ◌||◌, min, take, slice_get, Bool, true, List, Option, Some, nat_eq, option_to_list}
 use Rattle.std.specs.Map.{lookup}
 use Rattle.std.specs.List.{AllByRecursion}
 use Rattle.std.specs.Option.{is_some}
@@ -93,3 +93,8 @@ pub record HasParts (d : Table) (variable : ℕ) (left right lemmas : List ((ℕ
   pub first : depth_of d m.u ≡ depth_in d.order variable → has_lemma left (high_of d m.u) (low_of d m.u) ≡ true
   pub second : depth_of d m.u ≡ depth_in d.order variable → has_lemma right (high_of d m.u) (low_of d m.u) ≡ true
   pub below : depth_in d.order variable < depth_of d m.u → m.w ≡ m.u
+
+-- Each entry of a quantification has its parts, as soon as those before it have their lemmas.
+abbrev pub AreParted : Table → ℕ → List ((ℕ × ℕ) × Option ℕ) → List ((ℕ × ℕ) × Option ℕ) → List Met → Type 0
+AreParted d variable left right entries =
+    (place : ℕ) (m : Met) (lemmas : List ((ℕ × ℕ) × Option ℕ)) → slice_get entries place ≡ Some m → AreCovered lemmas (take place entries) → HasParts d variable left right lemmas m

@@ -8,7 +8,7 @@ ghost use Rattle.kn_justify.specs.declared.side.Side.TheVariants.{Left, Right};
 ghost use Rattle.kn_justify.specs.Arms.{Settled};
 ghost use Rattle.kn_justify.specs.Growth.{ArePlain};
 ghost use Rattle.kn_justify.specs.Names.{IsNamedMet, pair_arms};
-ghost use Rattle.kn_justify.specs.Lemmas.{alone, AreJoined, AreReduced, AreCovered, AreNamed, HasParts};
+ghost use Rattle.kn_justify.specs.Lemmas.{alone, AreJoined, AreReduced, AreCovered, AreNamed, HasParts, AreParted};
 
 use crate::Named;
 use crate::joins::joins;
@@ -50,15 +50,7 @@ pub(crate) fn quantified<S: Sink>(
         left: joins(alloc, d, Side::Left, halves, named, log, sink)?,
         right: joins(alloc, d, Side::Right, halves, named, log, sink)?,
     };
-    let mut lemmas = Lemmas::new(alloc);
-    for m in met {
-        if lemmas.get(m.u, m.v).is_some() {
-            continue;
-        }
-        let id = entry(alloc, d, &basis, m, &lemmas, named, log, sink)?;
-        lemmas.insert(m.u, m.v, id)?;
-    }
-    Ok(lemmas)
+    entries(alloc, d, &basis, met, named, log, sink)
 }
 
 // What the entries of a quantification rest on: the variable and its place in the order, and the lemmas of both sides of
@@ -69,6 +61,39 @@ struct Basis {
     place: usize,
     left: Lemmas,
     right: Lemmas,
+}
+
+// The lemmas of the entries, by what they rest on.
+fn entries<S: Sink>(
+    alloc: Global,
+    d: &Diagrams,
+    basis: &Basis,
+    met: &[Met],
+    named: &Named,
+    log: &mut Log,
+    sink: &mut S,
+) -> Result<Lemmas, LogError>
+    requires whole { log.old.failed ≡ false }
+    requires named { AreNamed log.old.state d.now named.now met.now }
+    requires place { basis.now.place ≡ depth_in d.now.order basis.now.var }
+    requires left { AreJoined log.old.state.given d.now named.now Left basis.now.left }
+    requires right { AreJoined log.old.state.given d.now named.now Right basis.now.right }
+    requires parts { AreParted d.now basis.now.var basis.now.left basis.now.right met.now }
+    ensures reduced { IfOk result (AreReduced log.new.state.given d.now named.now basis.now.var) }
+    ensures covered { IfOk result (λ lemmas. AreCovered lemmas met.now) }
+    ensures lines { LogsSuch ArePlain log.old log.new (S.written sink.old) (S.written sink.new) result }
+    ensures later { S.faults sink.old ≤ S.faults sink.new }
+    ensures fault { IsErrOf result LogError.Fault → Rose (S.faults sink.old) (S.faults sink.new) }
+{
+    let mut lemmas = Lemmas::new(alloc);
+    for m in met {
+        if lemmas.get(m.u, m.v).is_some() {
+            continue;
+        }
+        let id = entry(alloc, d, basis, m, &lemmas, named, log, sink)?;
+        lemmas.insert(m.u, m.v, id)?;
+    }
+    Ok(lemmas)
 }
 
 // The lemma of an entry: above the variable by those of its two nodes, at the variable by those of their disjunction.
