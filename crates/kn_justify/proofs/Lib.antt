@@ -18,3 +18,5 @@ pub mod ChainLemmas
 pub mod UnitLemmas
 pub mod ReducedLemmas
 pub mod StageLemmas
+pub mod GridLemmas
+pub mod CountLemmas

@@ -6,3 +6,5 @@ pub mod Names
 pub mod Lemmas
 pub mod Chains
 pub mod Stages
+pub mod Counts
+pub mod Taken
