@@ -111,3 +111,6 @@ plain-behind-not old mid new w v u e (front, p, h) last = such-not-behind ArePla
 
 pub plain-join : (old mid new : Logged) (w v u : Option (List ℕ)) → AddsSuch ArePlain old mid w v → AddsSuch ArePlain mid new v u → AddsSuch ArePlain old new w u
 plain-join old mid new w v u (a, p, h) (b, q, k) = (a ++ b, All-append _ a b p q, Adds-join a b old mid new w v u h k)
+
+pub adds-grow : (old new : Logged) (w w' : Option (List ℕ)) → AddsSuch ArePlain old new w w' → Grown old.state new.state
+adds-grow old new w w' (lines, p, h) = plain-grows lines old.state new.state p h.steps

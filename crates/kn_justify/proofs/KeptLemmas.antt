@@ -1,6 +1,5 @@
 -- Names that are kept while others come.
 use Rattle.std.proofs.Common.{◌≡◌, ℕ, zero, suc, ◌+◌, ◌≤◌, ◌<◌, ◌==◌, ◌⊎◌, ◌++◌, Bool, true, false, if◌then◌else◌, List, [], ◌∷◌, nat_eq, slice_index, Option, Some, None, refl, sym, ap, ◌∙◌, subst, inl, inr, arith}
-use Rattle.std.specs.Option.{is_some}
 use Rattle.std.proofs.lemmas.Bool.{cases_lt, eq-eqb, eqb-true}
 use Rattle.kn_logic.specs.Literals.{Literal, IsKnown}
 use Rattle.kn_lines.specs.declared.line.Arm.{Arm}
@@ -144,10 +143,3 @@ still-absent d f below a b ok there lower p none = none_by (name_of b f) (λ m e
 pub defined-as : (s : ProofState) (n : Name) (x y : Literal) (a b e f : Arm) → x ≡ y → a ≡ b → e ≡ f → IsDefined s n x a e → IsDefined s n y b f
 defined-as s n x y a b e f p q r h =
     subst (λ (z : Literal). IsDefined s n z b f) p (subst (λ (z : Arm). IsDefined s n x z f) q (subst (λ (z : Arm). IsDefined s n x a z) r h))
-
-pub none-found : (o p : Option Name) (b : Bool) → b ≡ is_some o → b ≡ false → o ≡ p → p ≡ None
-none-found None p b e f same = sym same
-none-found (Some n) p b e f same = absurd (not_both (sym e ∙ f))
-  where
-    not_both : true ≡ false → ⊥
-    not_both x = cc

@@ -12,6 +12,14 @@ pub mod ReachLemmas
 pub mod NameLemmas
 pub mod KeptLemmas
 pub mod PairLemmas
+pub mod EntryLemmas
+pub mod TraceLemmas
+pub mod ChainLemmas
+pub mod UnitLemmas
+pub mod ReducedLemmas
+pub mod StageLemmas
+pub mod GridLemmas
+pub mod CountLemmas
 pub mod PairIdLemmas
 pub mod PairLineLemmas
 pub mod PairGridLemmas

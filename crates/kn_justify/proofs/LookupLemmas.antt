@@ -1,7 +1,8 @@
 -- Values that are looked up by their keys.
-use Rattle.std.proofs.Common.{◌≡◌, ℕ, ◌⊎◌, ◌++◌, Bool, true, false, cond, List, [], ◌∷◌, Option, Some, None, IfSome, refl, sym, ap, ◌∙◌, subst, inl, inr}
+use Rattle.std.proofs.Common.{◌≡◌, ℕ, ◌⊎◌, ◌++◌, Bool, true, false, cond, List, [], ◌∷◌, Option, Some, None, IfSome, refl, sym, ap, ◌∙◌, subst, inl, inr, true≢false}
 use Rattle.std.specs.Map.{lookup}
 use Rattle.std.specs.List.{AllByRecursion}
+use Rattle.std.specs.Option.{is_some}
 use Rattle.std.proofs.lemmas.Option.{same_Some}
 use Rattle.indexmap.specs.IndexMap.{insert_entry}
 
@@ -63,3 +64,11 @@ if_at P false x o p h = h
 pub lookup-if : {K X : Type 0} (P : X → Type 0) (test : K → Bool) (es : List (K × X)) → AllByRecursion (λ e. P e.1) es → IfSome (lookup test es) P
 lookup-if P test [] h = tt
 lookup-if P test (x ∷ es) h = if_at P (test x.0) x.1 (lookup test es) h.0 (lookup-if P test es h.1)
+
+-- what the code tests of an option
+pub none-found : {X : Type 0} (o p : Option X) (b : Bool) → b ≡ is_some o → b ≡ false → o ≡ p → p ≡ None
+none-found None p b e f same = sym same
+none-found (Some n) p b e f same = absurd (true≢false (sym e ∙ f))
+
+pub some-found : {X : Type 0} (o p : Option X) (b : Bool) → b ≡ is_some o → b ≡ true → o ≡ p → is_some p ≡ true
+some-found o p b e f same = ap is_some (sym same) ∙ sym e ∙ f

@@ -1,6 +1,7 @@
 -- Names that are right, and stay so; and the nodes that are reached from a named one.
 use Rattle.std.proofs.Common.{◌≡◌, ℕ, zero, suc, ◌+◌, ◌≤◌, ◌<◌, ◌==◌, ◌||◌, ◌⊎◌, Bool, true, false, if◌then◌else◌, eqb, List, [], ◌∷◌, length, slice_index, Option, Some, None, refl, sym, ap, ◌∙◌, subst, inl, inr, arith}
 use Rattle.std.proofs.lemmas.Bool.{and_from, le-leb, ne_eqb, eq-eqb, eqb-true, cases_Bool, cond-true, cond-false, or_cases, or_left, or_right, cases_lt}
+use Rattle.std.proofs.lemmas.Option.{same_Some}
 use Rattle.kn_logic.specs.Literals.{Literal, negated, IsKnown}
 use Rattle.kn_lines.specs.declared.line.Arm.{Arm}
 use Rattle.kn_lines.specs.declared.line.Arm.TheVariants as arm
@@ -97,3 +98,12 @@ has-low s d names f ok there two h node e = h node (reaches-low d f node ok ther
 pub has-names : (s : ProofState) (d : Table) (names : List (ℕ × Name)) (f : ℕ) → IsTable d → IsNode d f → AreRight s d names → IsNamed names f → HasNames s d names f
 has-names s d names f ok there r k node e =
     has-name s d names node r (reached-all (IsNamed names) d f node ok there k (λ x two here named. (r.high x (named two).0 (named two).1, r.low x (named two).0 (named two).1)) e)
+
+-- the name that is found is right
+pub name-right : (s : ProofState) (d : Table) (names : List (ℕ × Name)) (node : ℕ) (n : Name) → HasName s d names node → 2 ≤ node → name_of names node ≡ Some n → IsRightName s d names node n
+name-right s d names node n h two e =
+    let (m, is, r) = h two in
+    subst (λ (x : Name). IsRightName s d names node x) (same_Some m n (sym is ∙ e)) r
+
+pub is-named : (s : ProofState) (d : Table) (names : List (ℕ × Name)) (node : ℕ) → HasName s d names node → IsNamed names node
+is-named s d names node h two = (let (m, is, r) = h two in (m, is))

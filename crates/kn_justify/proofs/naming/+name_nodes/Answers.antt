@@ -6,7 +6,8 @@ use Rattle.kn_justify.specs.Names.{name_of, AreReachedKnown}
 use Rattle.kn_justify.proofs.GrowthLemmas.{Grown-join, such-grows, plain-behind, plain-behind-not, plain-join}
 use Rattle.kn_justify.proofs.SettleLemmas.{error-ends}
 use Rattle.kn_justify.proofs.ReachLemmas.{reaches-own}
-use Rattle.kn_justify.proofs.KeptLemmas.{known-high, known-low, reached-high, reached-join, reached-more, still-absent, none-found}
+use Rattle.kn_justify.proofs.KeptLemmas.{known-high, known-low, reached-high, reached-join, reached-more, still-absent}
+use Rattle.kn_justify.proofs.LookupLemmas.{none-found}
 use Rattle.kn_justify.proofs.naming.+name_nodes.Goals as goal
 
 pub name_nodes-requires : goal.name_nodes-requires
