@@ -1,5 +1,5 @@
 -- What a pair group whose clauses are live gives: each border literal is known, and each two are in a clause whose id was noted.
-use Rattle.std.proofs.Common.{◌≡◌, ℕ, zero, suc, ◌≤◌, ◌<◌, ◌+◌, ◌==◌, ◌&&◌, ◌||◌, ◌⊎◌, Bool, true, false, not, cond, eqb, ltb, List, [], ◌∷◌, length, map, Option, None, Some, IfSome, IsSome, refl, sym, ap, ◌∙◌, subst, inl, inr, arith}
+use Rattle.std.proofs.Common.{◌≡◌, ℕ, ◌≤◌, ◌<◌, ◌==◌, ◌&&◌, ◌||◌, ◌⊎◌, Bool, true, false, not, cond, eqb, ltb, List, [], ◌∷◌, length, map, Option, None, Some, IfSome, IsSome, refl, sym, ap, ◌∙◌, subst, inl, inr, arith}
 use Rattle.std.specs.List.{AllByRecursion, list_any, list_all}
 use Rattle.std.specs.List.Sorted.{IsStrictlyIncreasing, IsStrictlySortedBy}
 use Rattle.std.specs.Option.{is_none}
@@ -7,45 +7,38 @@ use Rattle.std.specs.declared.cmp.Ordering.TheVariants.{Less}
 use Rattle.std.specs.Cmp.{ranks}
 use Rattle.std.specs.Ordering.{nat_cmp, MatchOrdering}
 use Rattle.std.proofs.lemmas.Map.Keys.{sorted_from_strictly_increasing}
-use Rattle.std.proofs.lemmas.Bool.{and_parts, or_cases, or_left, or_right, cases_Bool, cond-true, cond-false, eqb-true, ne_eqb, lt-ltb, le-ltb}
+use Rattle.std.proofs.lemmas.Bool.{and_parts, or_cases, or_right, cases_Bool, cond-true, cond-false, eqb-true, ne_eqb, lt-ltb, le-ltb}
 use Rattle.std.proofs.lemmas.Option.{same_Some}
 use Rattle.kn_logic.specs.Literals.{Literal, is_same, has, IsKnown, AreKnown, names, AreDifferent}
-use Rattle.kn_logic.specs.Constraints.{Bounded, IsWithin, clause, is_clause}
+use Rattle.kn_logic.specs.Constraints.{Bounded, clause, is_clause}
 use Rattle.kn_logic.specs.Groups.{Gathered, is_among, is_pair, is_binary, is_pair_of, has_pair, is_covered, IsPairGroup}
 use Rattle.kn_logic.proofs.Public.{same_literal, has-first, has-one, All-has, unnamed}
 use Rattle.kn_rules.specs.declared.given.Given.{Given}
 use Rattle.kn_rules.specs.States.{ProofState, live_at}
 use Rattle.kn_justify.specs.Closings.{AreLive}
-use Rattle.kn_justify.specs.PairIds.{id_of, smaller, larger, IsOver, IsNoted, IsIdOver, IsNotedFor, AreNoted}
-use Rattle.kn_justify.specs.PairGroups.{AreUnder, IsPaired, ArePaired}
+use Rattle.kn_justify.specs.Taken.{AreTaken}
+use Rattle.kn_justify.specs.PairIds.{id_of, smaller, larger, IsOver, IsNoted, IsNotedFor, AreNoted}
+use Rattle.kn_justify.specs.PairGroups.{IsPaired, ArePaired}
 use Rattle.kn_justify.proofs.ArmLemmas.{All-from}
 
 -- constraints that are live under ids
-heads : (a b : Option Bounded) (us vs : List (Option Bounded)) → a ∷ us ≡ b ∷ vs → (a ≡ b) × (us ≡ vs)
-heads a b us vs e = (cc, cc)
+pub taken-live : (given : List Given) (cs : List Bounded) (ids : List ℕ) → AreTaken given ids cs → AreLive given ids
+taken-live given cs [] h = tt
+taken-live given [] (id ∷ ids) h = absurd h
+taken-live given (c ∷ cs) (id ∷ ids) h = (subst (λ (o : Option Bounded). IsSome o) (sym h.0) refl, taken-live given cs ids h.1)
 
-pub under-live : (given : List Given) (cs : List Bounded) (ids : List ℕ) → AreUnder given cs ids → AreLive given ids
-under-live given cs [] h = tt
-under-live given [] (id ∷ ids) h = absurd cc
-under-live given (c ∷ cs) (id ∷ ids) h =
-    let parts = heads (live_at given id) (Some c) (map (live_at given) ids) (map (λ x. Some x) cs) h in
-    (subst (λ (o : Option Bounded). IsSome o) (sym parts.0) refl, under-live given cs ids parts.1)
+each-taken : (given : List Given) (P : Bounded → Type 0) (cs : List Bounded) (ids : List ℕ) → AreTaken given ids cs → AllByRecursion (λ id. IfSome (live_at given id) P) ids → AllByRecursion P cs
+each-taken given P [] ids h k = tt
+each-taken given P (c ∷ cs) [] h k = absurd h
+each-taken given P (c ∷ cs) (id ∷ ids) h k = (subst (λ (o : Option Bounded). IfSome o P) h.0 k.0, each-taken given P cs ids h.1 k.1)
 
-each-under : (given : List Given) (P : Bounded → Type 0) (cs : List Bounded) (ids : List ℕ) → AreUnder given cs ids → AllByRecursion (λ id. IfSome (live_at given id) P) ids → AllByRecursion P cs
-each-under given P [] ids h k = tt
-each-under given P (c ∷ cs) [] h k = absurd cc
-each-under given P (c ∷ cs) (id ∷ ids) h k =
-    let parts = heads (live_at given id) (Some c) (map (live_at given) ids) (map (λ x. Some x) cs) h in
-    (subst (λ (o : Option Bounded). IfSome o P) parts.0 k.0, each-under given P cs ids parts.1 k.1)
-
-one-under : (given : List Given) (P : Bounded → Type 0) (cs : List Bounded) (ids : List ℕ) (id : ℕ) (c : Bounded) → AreUnder given cs ids → AllByRecursion P cs → is_among ids id ≡ true → live_at given id ≡ Some c → P c
-one-under given P cs [] id c h k among live = absurd cc
-one-under given P [] (x ∷ ids) id c h k among live = absurd cc
-one-under given P (b ∷ cs) (x ∷ ids) id c h k among live =
-    let parts = heads (live_at given x) (Some b) (map (live_at given) ids) (map (λ y. Some y) cs) h in
+one-taken : (given : List Given) (P : Bounded → Type 0) (cs : List Bounded) (ids : List ℕ) (id : ℕ) (c : Bounded) → AreTaken given ids cs → AllByRecursion P cs → is_among ids id ≡ true → live_at given id ≡ Some c → P c
+one-taken given P cs [] id c h k among live = absurd cc
+one-taken given P [] (x ∷ ids) id c h k among live = absurd h
+one-taken given P (b ∷ cs) (x ∷ ids) id c h k among live =
     elim (or_cases (x == id) (is_among ids id) among) [
-      | inl e ↦ subst P (same_Some b c (sym parts.0 ∙ ap (λ (n : ℕ). live_at given n) (eqb-true x id e) ∙ live)) k.0
-      | inr e ↦ one-under given P cs ids id c parts.1 k.1 e live
+      | inl e ↦ subst P (same_Some b c (sym h.0 ∙ ap (λ (n : ℕ). live_at given n) (eqb-true x id e) ∙ live)) k.0
+      | inr e ↦ one-taken given P cs ids id c h.1 k.1 e live
     ]
 
 -- numbers that rise
@@ -212,29 +205,29 @@ live-as : (given : List Given) (id : ℕ) (c : Bounded) (a b : Literal) → live
 live-as given id c a b live (inl e) = inl (live ∙ ap (λ (x : Bounded). Some x) e)
 live-as given id c a b live (inr e) = inr (live ∙ ap (λ (x : Bounded). Some x) e)
 
-two-paired : (s : ProofState) (g : Gathered) (ids : List ℕ) (pairs : List ((ℕ × ℕ) × ℕ)) (a b : Literal) → IsPairGroup g → AreUnder s.given g.taken ids → AreNoted s ids pairs → has g.border a ≡ true → has g.border b ≡ true → a.variable < b.variable → IsPaired s.given pairs a b
-two-paired s g ids pairs a b p under noted ha hb less =
+two-paired : (s : ProofState) (g : Gathered) (ids : List ℕ) (pairs : List ((ℕ × ℕ) × ℕ)) (a b : Literal) → IsPairGroup g → AreTaken s.given ids g.taken → AreNoted s ids pairs → has g.border a ≡ true → has g.border b ≡ true → a.variable < b.variable → IsPaired s.given pairs a b
+two-paired s g ids pairs a b p taken noted ha hb less =
     let any : has_pair g.taken a b ≡ true = p.each a b ha hb (other-variable a b (λ e. omega (arith, e, less))) in
-    let (c, of, for) = one-of (IsNotedFor s pairs) (is_pair_of a b) g.taken any (each-under s.given (IsNotedFor s pairs) g.taken ids under noted.each) in
+    let (c, of, for) = one-of (IsNotedFor s pairs) (is_pair_of a b) g.taken any (each-taken s.given (IsNotedFor s pairs) g.taken ids taken noted.each) in
     let (binary, both) = and_parts (is_binary c) (has c.lits a && has c.lits b) of in
     let (ca, cb) = and_parts (has c.lits a) (has c.lits b) both in
     let (_, two) = and_parts (is_clause c) (is_pair c.lits) binary in
     let (id, found) = some-id (id_of pairs a.variable b.variable) (pair-noted pairs c.lits a b two ca cb less for.noted) in
     let over = noted.right a.variable b.variable id found in
-    let covered : is_covered g.border over.c ≡ true = one-under s.given (λ x. is_covered g.border x ≡ true) g.taken ids id over.c under p.pairs over.among over.live in
+    let covered : is_covered g.border over.c ≡ true = one-taken s.given (λ x. is_covered g.border x ≡ true) g.taken ids id over.c taken p.pairs over.among over.live in
     (id, found, live-as s.given id over.c a b over.live (covered-is g.border over.c a b (border-different g p) ha hb covered over.over))
 
-all-paired : (s : ProofState) (g : Gathered) (ids : List ℕ) (pairs : List ((ℕ × ℕ) × ℕ)) (lits : List Literal) → IsPairGroup g → AreUnder s.given g.taken ids → AreNoted s ids pairs
+all-paired : (s : ProofState) (g : Gathered) (ids : List ℕ) (pairs : List ((ℕ × ℕ) × ℕ)) (lits : List Literal) → IsPairGroup g → AreTaken s.given ids g.taken → AreNoted s ids pairs
     → ((l : Literal) → has lits l ≡ true → has g.border l ≡ true) → Rises (map (λ l. l.variable) lits) → ArePaired s.given pairs lits
-all-paired s g ids pairs [] p under noted inside r = tt
-all-paired s g ids pairs (l ∷ lits) p under noted inside r = (
-  All-from (IsPaired s.given pairs l) lits (λ k h. two-paired s g ids pairs l k p under noted (inside l (has-first l lits)) (inside k (or_right (is_same k l) (has lits k) h)) (above l.variable lits k r.0 h)),
-  all-paired s g ids pairs lits p under noted (λ k h. inside k (or_right (is_same k l) (has lits k) h)) r.1,
+all-paired s g ids pairs [] p taken noted inside r = tt
+all-paired s g ids pairs (l ∷ lits) p taken noted inside r = (
+  All-from (IsPaired s.given pairs l) lits (λ k h. two-paired s g ids pairs l k p taken noted (inside l (has-first l lits)) (inside k (or_right (is_same k l) (has lits k) h)) (above l.variable lits k r.0 h)),
+  all-paired s g ids pairs lits p taken noted (λ k h. inside k (or_right (is_same k l) (has lits k) h)) r.1,
 )
 
-pub border-paired : (s : ProofState) (g : Gathered) (ids : List ℕ) (pairs : List ((ℕ × ℕ) × ℕ)) (border : List Literal) → IsPairGroup g → AreUnder s.given g.taken ids → AreNoted s ids pairs → border ≡ g.border → ArePaired s.given pairs border
-border-paired s g ids pairs border p under noted is =
-    subst (ArePaired s.given pairs) (sym is) (all-paired s g ids pairs g.border p under noted (λ l h. h) (rises (map (λ l. l.variable) g.border) p.group.border))
+pub border-paired : (s : ProofState) (g : Gathered) (ids : List ℕ) (pairs : List ((ℕ × ℕ) × ℕ)) (border : List Literal) → IsPairGroup g → AreTaken s.given ids g.taken → AreNoted s ids pairs → border ≡ g.border → ArePaired s.given pairs border
+border-paired s g ids pairs border p taken noted is =
+    subst (ArePaired s.given pairs) (sym is) (all-paired s g ids pairs g.border p taken noted (λ l h. h) (rises (map (λ l. l.variable) g.border) p.group.border))
 
 -- each border literal is known
 another : (lits : List Literal) (l : Literal) → AreDifferent lits → 3 ≤ length lits → has lits l ≡ true → (k : Literal) × (has lits k ≡ true) × (is_same l k ≡ false)
@@ -249,14 +242,14 @@ another (a ∷ b ∷ more) l d three h =
     apart : a.variable ≡ b.variable → ⊥
     apart e = first-only b a (b ∷ more) d.0 (has-first b more) (sym e)
 
-one-known : (s : ProofState) (g : Gathered) (ids : List ℕ) (pairs : List ((ℕ × ℕ) × ℕ)) (l : Literal) → IsPairGroup g → AreUnder s.given g.taken ids → AreNoted s ids pairs → has g.border l ≡ true → IsKnown s.vars l
-one-known s g ids pairs l p under noted h =
+one-known : (s : ProofState) (g : Gathered) (ids : List ℕ) (pairs : List ((ℕ × ℕ) × ℕ)) (l : Literal) → IsPairGroup g → AreTaken s.given ids g.taken → AreNoted s ids pairs → has g.border l ≡ true → IsKnown s.vars l
+one-known s g ids pairs l p taken noted h =
     let (k, hk, apart) = another g.border l (border-different g p) p.three h in
-    let (c, of, for) = one-of (IsNotedFor s pairs) (is_pair_of l k) g.taken (p.each l k h hk apart) (each-under s.given (IsNotedFor s pairs) g.taken ids under noted.each) in
+    let (c, of, for) = one-of (IsNotedFor s pairs) (is_pair_of l k) g.taken (p.each l k h hk apart) (each-taken s.given (IsNotedFor s pairs) g.taken ids taken noted.each) in
     let (binary, both) = and_parts (is_binary c) (has c.lits l && has c.lits k) of in
     let (cl, _) = and_parts (has c.lits l) (has c.lits k) both in
     All-has (IsKnown s.vars) c.lits l for.within.lits cl
 
-pub border-known : (s : ProofState) (g : Gathered) (ids : List ℕ) (pairs : List ((ℕ × ℕ) × ℕ)) (border : List Literal) → IsPairGroup g → AreUnder s.given g.taken ids → AreNoted s ids pairs → border ≡ g.border → AreKnown s.vars border
-border-known s g ids pairs border p under noted is =
-    subst (AreKnown s.vars) (sym is) (All-from (IsKnown s.vars) g.border (λ l h. one-known s g ids pairs l p under noted h))
+pub border-known : (s : ProofState) (g : Gathered) (ids : List ℕ) (pairs : List ((ℕ × ℕ) × ℕ)) (border : List Literal) → IsPairGroup g → AreTaken s.given ids g.taken → AreNoted s ids pairs → border ≡ g.border → AreKnown s.vars border
+border-known s g ids pairs border p taken noted is =
+    subst (AreKnown s.vars) (sym is) (All-from (IsKnown s.vars) g.border (λ l h. one-known s g ids pairs l p taken noted h))

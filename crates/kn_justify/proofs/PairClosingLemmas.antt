@@ -1,26 +1,27 @@
 -- The klause of a pair group: its line steps once "all but one at most" is held of the border.
-use Rattle.std.proofs.Common.{◌≡◌, ℕ, suc, ◌≤◌, ◌<◌, ◌+◌, ◌-◌, ◌&&◌, Bool, true, false, not, cond, leb, List, [], ◌∷◌, length, Option, None, Some, Result, Ok, Err, refl, sym, ap, ◌∙◌, subst, arith}
+use Rattle.std.proofs.Common.{◌≡◌, ℕ, ◌≤◌, ◌-◌, ◌&&◌, Bool, true, not, List, [], ◌∷◌, length, Option, None, Some, Result, Ok, Err, refl, sym, ap, ◌∙◌, subst, arith}
 use Rattle.std.specs.List.{AllByRecursion}
 use Rattle.std.specs.Result.{IsOk, IfOk, OnOk}
-use Rattle.std.proofs.lemmas.Bool.{and_from, le-leb, cond-true, cond-false}
-use Rattle.kn_logic.specs.Literals.{Literal, IsKnown, AreKnown, names, AreDifferent}
+use Rattle.std.proofs.lemmas.Bool.{and_from, le-leb}
+use Rattle.kn_logic.specs.Literals.{Literal, AreKnown, AreDifferent}
 use Rattle.kn_logic.specs.Constraints.{Bounded, clause, klause}
 use Rattle.kn_logic.specs.Groups.{Gathered, IsPairGroup}
 use Rattle.kn_logic.proofs.Public.{same-refl}
 use Rattle.kn_lines.specs.declared.line.Arm.TheVariants as arm
 use Rattle.kn_rules.specs.States.{ProofState, definition_of, live_at}
 use Rattle.kn_rules.specs.Grids.{stands_for, is_root}
-use Rattle.kn_rules.specs.Steps.{are_known, is_known_variable, are_different, is_unit, if_unit, count}
+use Rattle.kn_rules.specs.Steps.{are_known, is_known_variable, are_different, is_unit, count}
 use Rattle.kn_log.specs.Logs.{Logged}
 use Rattle.kn_log.specs.Written.{AddsSuch, LogsSuch}
 use Rattle.kn_log.specs.declared.error.LogError.{LogError}
 use Rattle.kn_justify.specs.declared.counts.Held.{Held}
 use Rattle.kn_justify.specs.Growth.{ArePlain, Grown}
 use Rattle.kn_justify.specs.Closings.{AreLive, AreClosing, AreJustifying, Replaces}
-use Rattle.kn_justify.specs.PairGroups.{AreUnder, pair_klause, IsAllButOne}
+use Rattle.kn_justify.specs.Taken.{AreTaken}
+use Rattle.kn_justify.specs.PairGroups.{pair_klause, IsAllButOne}
 use Rattle.kn_justify.proofs.ClosingLemmas.{replaces-behind, replaces-klause, replaces-gone, closing-behind}
 use Rattle.kn_justify.proofs.DeletionLemmas.{live-more}
-use Rattle.kn_justify.proofs.PairBorderLemmas.{under-live, border-different}
+use Rattle.kn_justify.proofs.PairBorderLemmas.{taken-live, border-different}
 
 all-known : (vars : ℕ) (lits : List Literal) → AreKnown vars lits → are_known vars lits ≡ true
 all-known vars [] h = refl
@@ -66,8 +67,8 @@ group-steps old s g c held lits root p grown known is h ec er =
     (klause-steps s g.border held (length g.border - 1) root (known-grows old.vars s.vars g.border grown.vars (subst (AreKnown old.vars) is known)) (border-different g p)
     (subst (λ (xs : List Literal). IsAllButOne s xs (Some held)) is h) refl er)
 
-pub live-grown : (old new : ProofState) (cs : List Bounded) (ids : List ℕ) → Grown old new → AreUnder old.given cs ids → AreLive new.given ids
-live-grown old new cs ids g h = subst (λ given. AreLive given ids) (sym g.given) (live-more old.given g.help ids (under-live old.given cs ids h))
+pub live-grown : (old new : ProofState) (cs : List Bounded) (ids : List ℕ) → Grown old new → AreTaken old.given ids cs → AreLive new.given ids
+live-grown old new cs ids g h = subst (λ given. AreLive given ids) (sym g.given) (live-more old.given g.help ids (taken-live old.given cs ids h))
 
 -- behind the lines of the grid
 pub replaced-behind : (old mid new : ProofState) (ids : List ℕ) (c k : Bounded) (r : Result ℕ LogError) → Grown old mid → c ≡ k → IfOk r (Replaces mid new ids c) → IfOk r (Replaces old new ids k)

@@ -1,9 +1,9 @@
 -- One literal more is counted: by a definition for "all of them", and by a definition and a line for "all but one at most".
-use Rattle.std.proofs.Common.{◌≡◌, ℕ, suc, ◌≤◌, ◌<◌, ◌+◌, ◌-◌, ◌++◌, ◌⊎◌, leb, true, List, [], ◌∷◌, length, Option, None, Some, refl, sym, ap, ◌∙◌, subst, inl, inr, arith}
+use Rattle.std.proofs.Common.{◌≡◌, ℕ, ◌≤◌, ◌<◌, ◌+◌, ◌-◌, ◌++◌, leb, true, List, [], ◌∷◌, length, Option, None, Some, refl, sym, subst, inl, inr, arith}
 use Rattle.std.specs.List.{AllByRecursion}
 use Rattle.std.proofs.lemmas.Bool.{and_from, and_parts, le-leb, leb-true}
 use Rattle.kn_logic.specs.Literals.{Literal, IsKnown}
-use Rattle.kn_logic.specs.Constraints.{Bounded, clause}
+use Rattle.kn_logic.specs.Constraints.{clause}
 use Rattle.kn_lines.specs.declared.line.Arm.{Arm}
 use Rattle.kn_lines.specs.declared.line.Arm.TheVariants as arm
 use Rattle.kn_rules.specs.States.{ProofState, definition_of, live_at}
@@ -15,8 +15,7 @@ use Rattle.kn_justify.specs.declared.counts.Held.{Held}
 use Rattle.kn_justify.specs.Arms.{Refuted}
 use Rattle.kn_justify.specs.Growth.{Grown}
 use Rattle.kn_justify.specs.Definitions.{IsDefined}
-use Rattle.kn_justify.specs.PairIds.{id_of}
-use Rattle.kn_justify.specs.PairGroups.{IsPaired, ArePaired, Lifted, IsAll, held_arm, IsHeld, IsHeldIf, IsAllButOne, unit_hints}
+use Rattle.kn_justify.specs.PairGroups.{IsPaired, Lifted, IsAll, held_arm, IsHeldIf, IsAllButOne, unit_hints}
 use Rattle.kn_justify.proofs.GrowthLemmas.{Grown-join, grown-live}
 use Rattle.kn_justify.proofs.DefinitionLemmas.{defined-grows, high-up}
 use Rattle.kn_justify.proofs.PairLineLemmas.{lifted-none, lifted-more, lifted-stays, unit-refuted-by}

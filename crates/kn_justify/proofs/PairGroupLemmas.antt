@@ -1,5 +1,5 @@
 -- The border of a pair group, from its last literal to its first.
-use Rattle.std.proofs.Common.{◌≡◌, ℕ, zero, suc, ◌≤◌, ◌<◌, ◌+◌, ◌-◌, ◌++◌, ◌⊎◌, true, false, List, [], ◌∷◌, length, drop, get_or, Option, None, Some, refl, sym, ap, ◌∙◌, subst, inl, inr, arith}
+use Rattle.std.proofs.Common.{◌≡◌, ℕ, zero, suc, ◌≤◌, ◌<◌, ◌+◌, ◌-◌, List, [], ◌∷◌, length, drop, get_or, None, Some, refl, sym, ap, ◌∙◌, subst, arith}
 use Rattle.std.specs.List.{AllByRecursion, slice_get}
 use Rattle.std.proofs.lemmas.Option.{slice_get_read}
 use Rattle.kn_logic.specs.Literals.{Literal, IsKnown, AreKnown}
@@ -7,9 +7,7 @@ use Rattle.kn_lines.specs.declared.line.Arm.TheVariants as arm
 use Rattle.kn_rules.specs.declared.given.Given.{Given}
 use Rattle.kn_rules.specs.States.{ProofState}
 use Rattle.kn_justify.specs.declared.counts.All.{All}
-use Rattle.kn_justify.specs.declared.counts.Held.{Held}
 use Rattle.kn_justify.specs.Growth.{Grown}
-use Rattle.kn_justify.specs.PairIds.{id_of}
 use Rattle.kn_justify.specs.PairGroups.{IsPaired, ArePaired, IsAll, IsAllButOne}
 use Rattle.kn_justify.proofs.PairCountLemmas.{paired-grows, none-all, one-but-one}
 

@@ -1,5 +1,5 @@
 -- Hints that make one literal's clauses with others of use, and the line that follows from them.
-use Rattle.std.proofs.Common.{◌≡◌, ℕ, ◌⊎◌, ◌+◌, ◌++◌, Bool, true, false, not, List, [], ◌∷◌, Option, None, Some, refl, sym, ap, ◌∙◌, subst, inl, inr, option_to_list}
+use Rattle.std.proofs.Common.{◌≡◌, ℕ, ◌⊎◌, ◌+◌, ◌++◌, List, [], ◌∷◌, Option, None, Some, refl, sym, ap, ◌∙◌, subst, inl, inr, option_to_list}
 use Rattle.std.specs.List.{AllByRecursion}
 use Rattle.kn_logic.specs.Literals.{Literal, negated}
 use Rattle.kn_logic.specs.Constraints.{Bounded, clause}

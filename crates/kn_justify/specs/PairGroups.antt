@@ -1,7 +1,7 @@
 -- How a pair group makes its klause. Of the grid of "all but one at most", two nodes are left for each place of the
 -- border: "all literals from here on", and "all but one at most". The second follows from that of the next place, by
 -- the clauses that the literal is in with all later ones.
-use Rattle.std.specs.Prelude.{ℕ, ◌≡◌, ◌⊎◌, ◌+◌, ◌-◌, ◌++◌, true, List, [], ◌∷◌, length, map, Option, Some, None, option_to_list}
+use Rattle.std.specs.Prelude.{ℕ, ◌≡◌, ◌⊎◌, ◌+◌, ◌-◌, ◌++◌, true, List, [], ◌∷◌, length, Option, Some, None, option_to_list}
 use Rattle.std.specs.List.{AllByRecursion}
 use Rattle.kn_logic.specs.Literals.{Literal, IsKnown}
 use Rattle.kn_logic.specs.Constraints.{Bounded, clause, klause}
@@ -17,10 +17,6 @@ use Rattle.kn_justify.specs.declared.counts.All.{All}
 use Rattle.kn_justify.specs.declared.counts.Held.{Held}
 use Rattle.kn_justify.specs.Arms.{Has, IsSound, run_on}
 use Rattle.kn_justify.specs.PairIds.{id_of}
-
--- These constraints are live under the ids, one each, in order.
-abbrev pub AreUnder : List Given → List Bounded → List ℕ → Type 0
-AreUnder given cs ids = map (live_at given) ids ≡ map Some cs
 
 -- the klause of a pair group
 abbrev pub pair_klause : Gathered → Bounded

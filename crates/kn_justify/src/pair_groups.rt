@@ -8,7 +8,8 @@ ghost use Rattle.kn_rules.specs.States.{live_at};
 ghost use Rattle.kn_log.specs.Written.{LogsSuch};
 ghost use Rattle.kn_justify.specs.Growth.{ArePlain};
 ghost use Rattle.kn_justify.specs.Closings.{AreJustifying, Replaces};
-ghost use Rattle.kn_justify.specs.PairGroups.{AreUnder, pair_klause, ArePaired, IsAllButOne};
+ghost use Rattle.kn_justify.specs.Taken.{AreTaken};
+ghost use Rattle.kn_justify.specs.PairGroups.{pair_klause, ArePaired, IsAllButOne};
 
 use crate::closing::close;
 use crate::counts::{All, Held, count_all, count_all_but_one};
@@ -31,7 +32,7 @@ pub fn justify_pairs<S: Sink>(
 ) -> Result<u64, LogError>
     requires whole { log.old.failed ≡ false }
     requires pairs { IsPairGroup group.now }
-    requires live { AreUnder log.old.state.given group.now.taken ids.now }
+    requires live { AreTaken log.old.state.given ids.now group.now.taken }
     requires different { IsDistinct nat_eq ids.now }
     ensures replaced { IfOk result (Replaces log.old.state log.new.state ids.now (pair_klause group.now)) }
     ensures klause { IfOk result (λ id. live_at log.new.state.given id ≡ Some (pair_klause group.now)) }

@@ -4,7 +4,7 @@ ghost use Rattle.kn_logic.specs.Literals.{Literal, IsKnown};
 ghost use Rattle.kn_logic.specs.Constraints.{clause};
 ghost use Rattle.kn_logic.specs.Groups.{IsGroup, IsPairGroup};
 ghost use Rattle.kn_rules.specs.States.{start};
-ghost use Rattle.kn_justify.specs.PairGroups.{AreUnder};
+ghost use Rattle.kn_justify.specs.Taken.{AreTaken};
 
 use crate::justify_pairs;
 use kn_bytes::MemSink;
@@ -106,7 +106,7 @@ fn justified(
 ) -> Result<(u64, MemSink), LogError>
     requires vars { f.now.vars ≤ 2 ^ 32 }
     requires pairs { IsPairGroup group.now }
-    requires live { AreUnder (start f.now).given group.now.taken ids.now }
+    requires live { AreTaken (start f.now).given ids.now group.now.taken }
     requires different { IsDistinct nat_eq ids.now }
 {
     let mut sink = MemSink::new(alloc, 4096, 64, Vec::new(alloc))?;

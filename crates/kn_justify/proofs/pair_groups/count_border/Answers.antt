@@ -1,8 +1,8 @@
-use Rattle.std.proofs.Common.{◌∙◌, ◌≡◌, ◌+◌, ◌-◌, ◌≤◌, ◌<◌, refl, sym, subst, ap, arith, List, drop, Some}
+use Rattle.std.proofs.Common.{◌∙◌, ◌≡◌, ◌+◌, ◌-◌, refl, sym, subst, ap, arith, List, drop, Some}
 use Rattle.kn_logic.specs.Literals.{Literal}
-use Rattle.kn_justify.specs.Growth.{ArePlain, Grown}
+use Rattle.kn_justify.specs.Growth.{ArePlain}
 use Rattle.kn_justify.specs.PairGroups.{IsAll, IsAllButOne}
-use Rattle.kn_justify.proofs.GrowthLemmas.{Grown-join, such-grows, plain-grows, plain-behind, plain-behind-not, plain-join}
+use Rattle.kn_justify.proofs.GrowthLemmas.{such-grows, plain-grows, plain-behind-not, plain-join}
 use Rattle.kn_justify.proofs.SettleLemmas.{error-ends, plain-none}
 use Rattle.kn_justify.proofs.PairCountLemmas.{all-grows, but-one-grows}
 use Rattle.kn_justify.proofs.PairGroupLemmas.{at-place, before-it, known-grown, paired-grown, from-place, before-place, starts-all, starts-but-one}
