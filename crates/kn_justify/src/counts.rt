@@ -1,3 +1,4 @@
+//! How "all literals of a list", and "all but one at most", go on to one literal more in front.
 ghost use Rattle.std.specs.Prelude.{◌≡◌, ◌+◌, ◌<◌, ◌≤◌, ◌^◌, ◌++◌, ◌∷◌, List, [], true, false, length, Some, IfOk, OnOk, IsErrOf};
 ghost use Rattle.std.specs.List.{AllByRecursion};
 ghost use Rattle.kn_bytes.specs.Outside.{Rose};

@@ -1,3 +1,4 @@
+//! The klause of a pair group: the grid of its border, from the last literal to the first.
 ghost use Rattle.std.specs.Prelude.{◌≡◌, ◌≤◌, ◌-◌, ℕ, false, length, None, Some, nat_eq, IfOk, OnOk, IsErrOf};
 ghost use Rattle.std.specs.List.{AllByRecursion, IsDistinct};
 ghost use Rattle.kn_bytes.specs.Outside.{Rose};
@@ -22,7 +23,9 @@ use std::alloc::Global;
 
 /// Justifies the klause of a pair group: logs lines that end with "at least all but one of the border", the literals
 /// ascending by variable, and with the deletion of the group's clauses, which are live under these ids, one each, in
-/// their order. Answers the id of the klause. No other id changes, after an error neither.
+/// their order. Answers the id of the klause. There are three lines for each border literal, and two hints for each
+/// pair of them. After an error the lines so far stand, and of the last one a fault has left the sink a part. No
+/// other id changes.
 pub fn justify_pairs<S: Sink>(
     alloc: Global,
     group: &Group,

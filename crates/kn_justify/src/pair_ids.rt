@@ -1,3 +1,4 @@
+//! Clauses of two literals, found by their variables.
 ghost use Rattle.std.specs.Prelude.{◌≡◌, ◌++◌, ◌∷◌, ◌⊎◌, ℕ, [], Some, IsSome, IfOk, OnOk};
 ghost use Rattle.kn_justify.specs.PairIds.{id_of, IsOver, IsNoted, AreNoted};
 

@@ -1,3 +1,4 @@
+//! The lines of small pair groups, against texts that another program made.
 ghost use Rattle.std.specs.Prelude.{◌≡◌, ◌≤◌, ◌^◌, ◌++◌, ◌∷◌, [], true, false, length, nat_eq, take, IfOk, OnOk};
 ghost use Rattle.std.specs.List.{IsDistinct};
 ghost use Rattle.kn_logic.specs.Literals.{Literal, IsKnown};
