@@ -1,0 +1,12 @@
+pub mod Arms
+pub mod Growth
+pub mod Closings
+pub mod Definitions
+pub mod Names
+pub mod Lemmas
+pub mod Chains
+pub mod Stages
+pub mod Counts
+pub mod Taken
+pub mod PairIds
+pub mod PairGroups

@@ -1,0 +1,28 @@
+//! Proofs that a group of clauses makes its klause: the lines that end with the klause in place of the clauses.
+#![tactic(auto)]
+
+mod clauses;
+mod closing;
+mod counts;
+mod defining;
+mod joins;
+mod lemmas;
+mod name;
+mod named;
+mod naming;
+mod pair_groups;
+mod pair_ids;
+mod pairs;
+mod quantified;
+mod settling;
+mod side;
+mod units;
+
+pub use clauses::clause_unit;
+pub use named::Named;
+pub use naming::name_nodes;
+pub use pair_groups::justify_pairs;
+pub use units::{and_unit, exists_unit};
+
+#[cfg(test)]
+mod pair_tests;
