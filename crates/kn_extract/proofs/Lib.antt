@@ -6,4 +6,5 @@ mod Pairs
 mod Unique
 mod Moments
 mod Structured
+mod Comments
 mod Whole

@@ -7,9 +7,11 @@
 mod extraction;
 mod laws;
 mod taken;
+mod text;
 
 pub use extraction::Extraction;
 pub use laws::{
     an_extraction_is_one, an_extraction_keeps_models, groups_stand_apart, what_remains_is_known,
 };
 pub use taken::Taken;
+pub use text::extraction_text;
