@@ -7,4 +7,5 @@ mod Unique
 mod Moments
 mod Structured
 mod Comments
+mod Stored
 mod Whole

@@ -200,7 +200,7 @@ numbered-long : (last : ℕ) (cs : List Bounded) → length (numbered last cs) �
 numbered-long last [] = refl
 numbered-long last (c ∷ cs) = ap suc (numbered-long (last + 1) cs)
 
-numbered-end : (last : ℕ) (cs : List Bounded) (c : Bounded) → numbered last (cs ++ c ∷ []) ≡ numbered last cs ++ record { id = last + length cs + 1; constraint = c } ∷ []
+pub numbered-end : (last : ℕ) (cs : List Bounded) (c : Bounded) → numbered last (cs ++ c ∷ []) ≡ numbered last cs ++ record { id = last + length cs + 1; constraint = c } ∷ []
 numbered-end last [] c = ap (λ n. record { id = n; constraint = c } ∷ []) {x = last + 1} {y = last + 0 + 1} (omega arith)
 numbered-end last (d ∷ cs) c =
     ap (λ z. record { id = last + 1; constraint = d } ∷ z) (numbered-end (last + 1) cs c

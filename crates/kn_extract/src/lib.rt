@@ -6,6 +6,7 @@
 
 mod extraction;
 mod laws;
+mod storing;
 mod taken;
 mod text;
 
