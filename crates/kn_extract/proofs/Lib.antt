@@ -8,4 +8,7 @@ mod Moments
 mod Structured
 mod Comments
 mod Stored
+mod Judged
+mod Gone
+mod Worth
 mod Whole

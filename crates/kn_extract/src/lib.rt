@@ -4,10 +4,12 @@
 //! `specs/Structure.antt`.
 #![tactic(auto)]
 
+mod counting;
 mod extraction;
 mod laws;
 mod storing;
 mod taken;
+mod taking;
 mod text;
 
 pub use extraction::Extraction;
