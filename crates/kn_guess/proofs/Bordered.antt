@@ -222,7 +222,7 @@ first-none on off (z ∷ xs) e = at (both on off z) refl e (λ h. first-none on 
     at true f e more = absurd cc
     at false f e more = (f, more e)
 
-map-sided : (on xs : List ℕ) → map (λ l. l.variable) (map (sided on) xs) ≡ xs
+pub map-sided : (on xs : List ℕ) → map (λ l. l.variable) (map (sided on) xs) ≡ xs
 map-sided on [] = refl
 map-sided on (x ∷ xs) = ap (λ z. x ∷ z) (map-sided on xs)
 

@@ -7,3 +7,11 @@ mod Grown
 mod Bordered
 mod Taken
 mod Seeded
+mod Joined
+mod Meets
+mod Entered
+mod Clique
+mod Apart
+mod Covered
+mod Stays
+mod Excluded

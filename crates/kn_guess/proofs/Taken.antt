@@ -29,7 +29,7 @@ any-from f xs x i e = let q = any-with (λ v. (g : ℕ → Bool) → g v ≡ tru
 among-named : (s : Stored) (x id : ℕ) → is_among (ids_of (naming x s.live)) id ≡ list_any (λ p. (p.id == id) && names (named p.constraint) x) s.live
 among-named s x id = any-map (λ p. p.id) (λ v. v == id) (naming x s.live) ∙ any-filter (λ p. p.id == id) (λ p. names (named p.constraint) x) s.live
 
-among-chosen : (s : Stored) (test : Bounded → Bool) (id : ℕ) → is_among (ids_of (chosen test s.live)) id ≡ list_any (λ p. (p.id == id) && test p.constraint) s.live
+pub among-chosen : (s : Stored) (test : Bounded → Bool) (id : ℕ) → is_among (ids_of (chosen test s.live)) id ≡ list_any (λ p. (p.id == id) && test p.constraint) s.live
 among-chosen s test id = any-map (λ p. p.id) (λ v. v == id) (chosen test s.live) ∙ any-filter (λ p. p.id == id) (λ p. test p.constraint) s.live
 
 ids-same : (s : Stored) (aux : List ℕ) (id : ℕ) → is_among (ids_with s.live aux) id ≡ is_among (ids_of (chosen (touches aux) s.live)) id

@@ -17,7 +17,7 @@ use kn_store::Store;
 use std::alloc::Global;
 
 /// The least number of border variables.
-const LEAST_BORDER: usize = 3;
+pub(crate) const LEAST_BORDER: usize = 3;
 
 // The border of the variables of a set, which are also given in a list.
 pub(crate) fn border(
@@ -74,7 +74,12 @@ fn first_in_both(variables: &[u64], positive: &VarSet, negative: &VarSet) -> Opt
     None
 }
 
-fn literals(alloc: Global, variables: &[u64], positive: &VarSet) -> Result<Vec<Lit>, NoMemory>
+// Each variable as it stands on its side.
+pub(crate) fn literals(
+    alloc: Global,
+    variables: &[u64],
+    positive: &VarSet,
+) -> Result<Vec<Lit>, NoMemory>
     requires { AllByRecursion (λ x. 1 ≤ x) variables.now }
     ensures { IfOk result (λ lits. lits.items ≡ map (sided positive.now) variables.now) }
 {

@@ -5,16 +5,28 @@
 
 mod asks;
 mod border;
+mod covering;
 mod error;
 mod growing;
 mod guess;
+mod joining;
+mod laws;
+mod meeting;
+mod pairs;
+mod partner;
 mod pick;
+mod rows;
 mod seeds;
 mod taking;
 mod var_set;
 
 pub use error::NoGuess;
 pub use guess::Guess;
+pub use laws::{
+    pair_guesses_are_pair_groups, pairs_stay, refusals_exclude_each_other,
+    refused_seeds_have_no_guess, refused_starts_have_no_guess,
+};
+pub use pairs::{Pairs, pair_guess};
 pub use seeds::aux_guess;
 
 #[cfg(test)]

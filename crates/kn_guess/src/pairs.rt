@@ -1,0 +1,91 @@
+ghost use Rattle.std.specs.Prelude.{◌≡◌, ◌≤◌, ◌<◌, ◌∷◌, [], false, true, length, map, IfOk, IfSome, IfNone, option_copied};
+ghost use Rattle.kn_logic.specs.Constraints.{Bounded};
+ghost use Rattle.kn_logic.specs.Groups.{IsPairGroup, is_binary};
+ghost use Rattle.kn_store.specs.Stores.{Stored, IsStored, constraints_of, constraint_at};
+ghost use Rattle.kn_guess.specs.Guesses.{joined, candidates, pair_group, IsPairGuess, IsNoPairGuess};
+ghost use Rattle.kn_guess.specs.Tables.{PairTable, IsPairTable};
+
+use crate::Guess;
+use crate::asks::is_binary;
+use crate::border::LEAST_BORDER;
+use crate::covering::covered;
+use crate::joining::joined;
+use crate::partner::Partners;
+use crate::rows::{empty_rows, enter_all};
+use kn_logic::{Constraint, Lit, NoMemory};
+use kn_store::Store;
+use std::alloc::Global;
+use std::marker::Model;
+
+/// The guess of a start, which is the id of a clause: its two literals, and those literals that join them,
+/// variables ascending and the positive one first, each where it stands in a binary clause with every
+/// literal that has come together, up to 256; and all binary clauses of two of them. `None` exactly where
+/// the id is that of no binary clause that is left, or fewer than three literals come together.
+pub fn pair_guess(alloc: Global, store: &Store, start: u64) -> Result<Option<Guess>, NoMemory>
+    ensures guess { IfOk result (λ o. IfSome o (λ g. IsPairGuess store.now start g.group g.ids)) }
+    ensures pairs { IfOk result (λ o. IfSome o (λ g. IsPairGroup g.group)) }
+    ensures none { IfOk result (λ o. IfNone o (IsNoPairGuess store.now start)) }
+{
+    let pairs = Pairs::new(alloc, store)?;
+    pairs.guess(alloc, store, start)
+}
+
+/// The pairs of literals that stand in binary clauses, made once from a store for all its starts. It stays
+/// right while groups that it guessed are taken out of the store, and klauses come in their place.
+#[derive(Debug, Drop)]
+pub struct Pairs {
+    rows: Vec<Partners>,
+}
+
+impl Model for Pairs {
+    ghost use Rattle.kn_guess.specs.Tables.{PairTable};
+
+    ghost Value = { PairTable };
+
+    ghost view = { λ p. p.rows.items };
+}
+
+impl Pairs {
+    /// The pairs of a store. An error where memory is wanting.
+    pub fn new(alloc: Global, store: &Store) -> Result<Pairs, NoMemory>
+        ensures { IfOk result (IsPairTable store.now) }
+    {
+        let vars = store.vars();
+        let mut rows = empty_rows(alloc, vars)?;
+        for place in 0..vars {
+            enter_all(&mut rows, store, Lit::new(place + 1, true))?;
+            enter_all(&mut rows, store, Lit::new(place + 1, false))?;
+        }
+        Ok(Pairs { rows })
+    }
+
+    /// The guess of a start, as `pair_guess` gives it, by the pairs of this store.
+    pub fn guess(&self, alloc: Global, store: &Store, start: u64) -> Result<Option<Guess>, NoMemory>
+        requires { IsPairTable store.now self.now }
+        ensures guess { IfOk result (λ o. IfSome o (λ g. IsPairGuess store.now start g.group g.ids)) }
+        ensures pairs { IfOk result (λ o. IfSome o (λ g. IsPairGroup g.group)) }
+        ensures none { IfOk result (λ o. IfNone o (IsNoPairGuess store.now start)) }
+    {
+        let _vars = store.vars();
+        let Some(first) = binary(store, start) else {
+            return Ok(None);
+        };
+        let group = joined(alloc, &self.rows, store, first.lits())?;
+        if group.len() < LEAST_BORDER {
+            return Ok(None);
+        }
+        Ok(Some(covered(alloc, store, &group)?))
+    }
+}
+
+// The binary clause of an id.
+fn binary(store: &Store, id: u64) -> Option<&Constraint>
+    ensures some { IfSome result (λ c. (constraint_at store.now.live id ≡ Some c.now) × (is_binary c.now ≡ true)) }
+    ensures none { IfNone result ((c : Bounded) → constraint_at store.now.live id ≡ Some c → is_binary c ≡ false) }
+{
+    let c = store.get(id)?;
+    if !is_binary(c) {
+        return None;
+    }
+    Some(c)
+}
