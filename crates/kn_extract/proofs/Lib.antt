@@ -1,8 +1,8 @@
 mod Lists
 mod Truth
 mod Steps
-mod Seeds
-mod Pairs
+mod SeedSteps
+mod PairSteps
 mod Unique
 mod Moments
 mod Structured
@@ -11,4 +11,5 @@ mod Stored
 mod Judged
 mod Gone
 mod Worth
+mod Tried
 mod Whole
