@@ -62,10 +62,10 @@ joins-or Q limit set v same more = full (nat_lt limit (length set)) (there (list
 abbrev pub Extends : List ℕ → List ℕ → Type 0
 Extends old new = (more : List ℕ) × (new ≡ old ++ more)
 
-extends-self : (xs : List ℕ) → Extends xs xs
+pub extends-self : (xs : List ℕ) → Extends xs xs
 extends-self xs = ([], sym (append-nil xs))
 
-extends-trans : (a b c : List ℕ) → Extends a b → Extends b c → Extends a c
+pub extends-trans : (a b c : List ℕ) → Extends a b → Extends b c → Extends a c
 extends-trans a b c p q = (p.0 ++ q.0, q.1 ∙ ap (λ z. z ++ q.0) p.1 ∙ append_assoc a p.0 q.0)
 
 extends-number : (limit : ℕ) (set : List ℕ) (o : Option ℕ) → Extends set (with_number limit set o)
@@ -97,7 +97,7 @@ short-before : (limit : ℕ) (old new : List ℕ) → Extends old new → length
 short-before limit old new e h = let l = ap length e.1 ∙ length-append old e.0 in omega (arith, l, h)
 
 -- no number comes twice
-apart-end : (xs : List ℕ) (v : ℕ) → AreApart xs → is_among xs v ≡ false → AreApart (xs ++ v ∷ [])
+pub apart-end : (xs : List ℕ) (v : ℕ) → AreApart xs → is_among xs v ≡ false → AreApart (xs ++ v ∷ [])
 apart-end [] v a e = (refl, tt)
 apart-end (x ∷ xs) v a e =
     let q = or_parts (x == v) (is_among xs v) e in

@@ -15,3 +15,7 @@ mod Apart
 mod Covered
 mod Stays
 mod Excluded
+mod After
+mod Walked
+mod Swapped
+mod Built

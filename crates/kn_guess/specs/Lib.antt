@@ -3,6 +3,8 @@ pub mod Refusals
 pub mod Growing
 pub mod Seen
 pub mod Sides
+pub mod Flags
+pub mod Walks
 pub mod Tables
 pub mod Pairing
 pub use Rattle.kn_store.specs.Stores

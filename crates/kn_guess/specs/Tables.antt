@@ -1,17 +1,47 @@
 -- What is kept of a store, so that many groups are guessed from it while others are taken out of it.
-use Rattle.std.specs.Prelude.{ℕ, ◌≡◌, ◌≤◌, ◌+◌, ◌*◌, ◌==◌, ◌&&◌, not, Bool, true, false, if◌then◌else◌, List, [], ◌∷◌, ◌++◌, length, map, filter, IfSome, slice_index_or}
+use Rattle.std.specs.Prelude.{ℕ, ◌≡◌, ◌≤◌, ◌<◌, ◌+◌, ◌-◌, ◌*◌, ◌==◌, ◌&&◌, not, Bool, true, false, if◌then◌else◌, List, [], ◌∷◌, ◌++◌, length, map, filter, IfSome, slice_index_or}
 use Rattle.std.specs.Option.{is_some}
 use Rattle.std.specs.List.{list_any, AllByRecursion}
 use Rattle.std.specs.List.Sorted.{IsStrictlyIncreasing}
-use Rattle.kn_logic.specs.Literals.{Literal, is_same, IsKnown}
-use Rattle.kn_logic.specs.Constraints.{Bounded}
+use Rattle.kn_logic.specs.Literals.{Literal, names, IsKnown}
+use Rattle.kn_logic.specs.Constraints.{Bounded, named}
 use Rattle.kn_logic.specs.Groups.{is_pair_of, has_pair}
 use Rattle.kn_store.specs.Stores.{Numbered, Stored, constraints_of, constraint_at}
-use Rattle.kn_guess.specs.Guesses.{candidates}
+use Rattle.kn_guess.specs.Guesses.{in_klause, share, is_seed, candidates}
+use Rattle.kn_guess.specs.Seen.{IsSeen}
+use Rattle.kn_guess.specs.Walks.{kept, is_near}
 
 -- the constraints that pass a test are taken out, and one comes in their place
 abbrev pub replaced : Stored → (Bounded → Bool) → Bounded → Stored
 replaced s test c = record { vars = s.vars; added = s.added + 1; live = filter (λ p. not (test p.constraint)) s.live ++ record { id = s.added + 1; constraint = c } ∷ [] }
+
+-- some constraint names the variable
+abbrev pub in_some : List Bounded → ℕ → Bool
+in_some cs x = list_any (λ c. names (named c) x) cs
+
+-- For each variable, that of variable 1 first: whether it stands in no klause, whether it passes the test of a
+-- seed, and ids of constraints that name it; for each id, that of id 0 first, variables that its constraint names.
+-- No seed below `from` is asked any more.
+pub record SeedTable : Type 0 where
+  pub from : ℕ
+  pub free : List Bool
+  pub seeds : List Bool
+  pub entries : List (List ℕ)
+  pub members : List (List ℕ)
+
+-- The ids and the variables that are kept are those of the store, so far as they are asked for.
+pub record IsNear (s : Stored) (from : ℕ) (entries members : List (List ℕ)) : Type 0 where
+  pub long : length entries ≡ s.vars
+  pub placed : (x : ℕ) → 1 ≤ x → AllByRecursion (λ k. k < length members) (kept entries (x - 1))
+  pub sound : (x z : ℕ) → 1 ≤ x → in_klause (constraints_of s.live) x ≡ false → in_some (constraints_of s.live) x ≡ true → is_near members (kept entries (x - 1)) z ≡ true → share (constraints_of s.live) x z ≡ true
+  pub complete : (x z : ℕ) → 1 ≤ x → in_klause (constraints_of s.live) x ≡ false → from < z → in_klause (constraints_of s.live) z ≡ false → share (constraints_of s.live) x z ≡ true → is_near members (kept entries (x - 1)) z ≡ true
+
+-- A table that tells the seeds of a store and their neighbours.
+pub record IsSeedTable (s : Stored) (t : SeedTable) : Type 0 where
+  pub seen : IsSeen s t.free
+  pub long : length t.seeds ≡ s.vars
+  pub tested : (x : ℕ) → 1 ≤ x → x ≤ s.vars → slice_index_or t.seeds (x - 1) false ≡ is_seed (constraints_of s.live) x
+  pub near : IsNear s t.from t.entries t.members
 
 -- a literal that stands with another in a binary clause, and the id of one such clause
 pub record Paired : Type 0 where

@@ -1,5 +1,5 @@
 // What a store says of one variable.
-ghost use Rattle.std.specs.Prelude.{◌≡◌, ◌≤◌, not, ◌&&◌, IfOk};
+ghost use Rattle.std.specs.Prelude.{ℕ, ◌≡◌, ◌≤◌, ◌-◌, not, ◌&&◌, false, length, IfOk, slice_index_or};
 ghost use Rattle.kn_logic.specs.Literals.{has};
 ghost use Rattle.kn_logic.specs.Constraints.{is_clause, named};
 ghost use Rattle.kn_logic.specs.Groups.{is_binary};
@@ -39,6 +39,18 @@ pub(crate) fn free_variables(alloc: Global, store: &Store) -> Result<Vec<bool>, 
         free.push(!any_klause(store, store.with_variable(place + 1)))?;
     }
     Ok(free)
+}
+
+// For each variable, that of variable 1 first, whether it passes the test of a seed.
+pub(crate) fn seed_variables(alloc: Global, store: &Store) -> Result<Vec<bool>, NoMemory>
+    ensures long { IfOk result (λ seeds. length seeds.items ≡ store.now.vars) }
+    ensures tested { IfOk result (λ seeds. (x : ℕ) → 1 ≤ x → x ≤ store.now.vars → slice_index_or seeds.items (x - 1) false ≡ is_seed (constraints_of store.now.live) x) }
+{
+    let mut seeds = Vec::new(alloc);
+    for place in 0..store.vars() {
+        seeds.push(is_seed(store, place + 1))?;
+    }
+    Ok(seeds)
 }
 
 fn any_klause(store: &Store, ids: &[u64]) -> bool

@@ -7,18 +7,22 @@ mod asks;
 mod border;
 mod covering;
 mod error;
+mod flags;
 mod growing;
 mod guess;
 mod joining;
 mod laws;
 mod meeting;
+mod numbers;
 mod pairs;
 mod partner;
 mod pick;
 mod rows;
 mod seeds;
+mod tables;
 mod taking;
 mod var_set;
+mod walking;
 
 pub use error::NoGuess;
 pub use guess::Guess;
@@ -27,7 +31,7 @@ pub use laws::{
     refused_seeds_have_no_guess, refused_starts_have_no_guess,
 };
 pub use pairs::{Pairs, pair_guess};
-pub use seeds::aux_guess;
+pub use seeds::{Seeds, aux_guess};
 
 #[cfg(test)]
 mod tests;

@@ -1,7 +1,8 @@
 // Which variables of constraints are gathered.
 ghost use Rattle.std.specs.Prelude.{ℕ, ◌≡◌, Option};
 ghost use Rattle.kn_logic.specs.Literals.{Literal};
-ghost use Rattle.kn_guess.specs.Growing.{later_key, outside_key};
+ghost use Rattle.kn_guess.specs.Growing.{outside_key};
+ghost use Rattle.kn_guess.specs.Walks.{is_later};
 
 use crate::var_set::VarSet;
 use kn_logic::Lit;
@@ -20,20 +21,11 @@ pub(crate) struct Later<'a> {
     pub(crate) free: &'a [bool],
 }
 
-impl Pick for Later<'_> {
-    ghost use Rattle.kn_guess.specs.Growing.{later_key};
-
-    ghost key = { λ p. later_key p.seed p.free.now };
-
-    fn pick(&self, lit: Lit) -> Option<u64>
-        ensures { result ≡ later_key self.now.seed self.now.free.now lit }
+impl Later<'_> {
+    pub(crate) fn is_later(&self, var: u64) -> bool
+        ensures { result ≡ is_later self.now.seed self.now.free.now var }
     {
-        let var = lit.var();
-        let free = self.free.get(var as usize - 1).copied().unwrap_or(false);
-        if self.seed < var && free {
-            return Some(var);
-        }
-        None
+        self.seed < var && self.free.get(var as usize - 1).copied().unwrap_or(false)
     }
 }
 

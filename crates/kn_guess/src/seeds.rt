@@ -1,19 +1,26 @@
-ghost use Rattle.std.specs.Prelude.{◌≡◌, ◌≤◌, false, filter, IfOk, IfErr};
+ghost use Rattle.std.specs.Prelude.{ℕ, ◌≡◌, ◌≤◌, true, false, List, filter, IfOk, IfErr};
 ghost use Rattle.std.specs.List.{AllByRecursion};
 ghost use Rattle.std.specs.List.Sorted.{IsStrictlyIncreasing};
-ghost use Rattle.kn_store.specs.Stores.{IsStored, constraints_of, ids_of, chosen};
-ghost use Rattle.kn_guess.specs.Guesses.{in_klause, touches, IsBorder, IsSeedGuess};
+ghost use Rattle.kn_logic.specs.Constraints.{klause};
+ghost use Rattle.kn_store.specs.Stores.{Stored, IsStored, constraints_of, ids_of, chosen};
+ghost use Rattle.kn_guess.specs.Guesses.{in_klause, is_seed, touches, IsBorder, IsSeedGuess};
 ghost use Rattle.kn_guess.specs.Refusals.{IsRefused};
 ghost use Rattle.kn_guess.specs.Seen.{IsSeen};
+ghost use Rattle.kn_guess.specs.Tables.{SeedTable, IsNear, IsSeedTable, replaced};
 
-use crate::asks::{free_variables, is_seed};
+use crate::asks::{free_variables, seed_variables};
 use crate::border::border;
+use crate::flags::Flags;
 use crate::growing::least;
+use crate::numbers::Numbers;
+use crate::pick::Later;
+use crate::tables::{entries, members};
 use crate::taking::{ascending, found, ids_with};
 use crate::{Guess, NoGuess};
 use kn_logic::{Group, Lit, NoMemory};
 use kn_store::Store;
 use std::alloc::Global;
+use std::marker::Model;
 
 /// The guess of a seed, which is a variable of the store: the least set of variables that has it, and with
 /// each variable the later ones than the seed that stand in no klause and in a clause with it; all
@@ -25,23 +32,96 @@ pub fn aux_guess(alloc: Global, store: &Store, seed: u64) -> Result<Guess, NoGue
     ensures guess { IfOk result (λ g. IsSeedGuess store.now seed g.group g.ids) }
     ensures refused { IfErr result (IsRefused (constraints_of store.now.live) seed) }
 {
-    let free = free_variables(alloc, store)?;
-    let _vars = store.vars();
-    seed_guess(alloc, store, &free, seed)
+    let mut seeds = Seeds::new(alloc, store)?;
+    seeds.guess(alloc, store, seed)
 }
 
-fn seed_guess(alloc: Global, store: &Store, free: &[bool], seed: u64) -> Result<Guess, NoGuess>
-    requires first { 1 ≤ seed }
-    requires last { seed ≤ store.now.vars }
-    requires seen { IsSeen store.now free.now }
-    requires stored { IsStored store.now }
-    ensures guess { IfOk result (λ g. IsSeedGuess store.now seed g.group g.ids) }
-    ensures refused { IfErr result (IsRefused (constraints_of store.now.live) seed) }
-{
-    if !is_seed(store, seed) {
-        return Err(NoGuess::NotSeed);
+/// What is kept of a store to guess from all its seeds, ascending. It stays right where a group that was
+/// guessed is taken out of the store, and its klause has come, if it is told of it.
+#[derive(Debug, Drop)]
+pub struct Seeds {
+    from: u64,
+    free: Flags,
+    seeds: Flags,
+    entries: Vec<Numbers>,
+    members: Vec<Numbers>,
+}
+
+impl Model for Seeds {
+    ghost use Rattle.kn_guess.specs.Tables.{SeedTable};
+
+    ghost Value = { SeedTable };
+
+    ghost view = { λ s. record { from = s.from; free = s.free; seeds = s.seeds; entries = s.entries.items; members = s.members.items } };
+}
+
+impl Seeds {
+    /// The seeds of a store. An error where memory is wanting.
+    pub fn new(alloc: Global, store: &Store) -> Result<Seeds, NoMemory>
+        ensures table { IfOk result (IsSeedTable store.now) }
+        ensures from { IfOk result (λ x. x.from ≡ 1) }
+    {
+        Ok(Seeds {
+            from: 1,
+            free: Flags::new(free_variables(alloc, store)?),
+            seeds: Flags::new(seed_variables(alloc, store)?),
+            entries: entries(alloc, store)?,
+            members: members(alloc, store)?,
+        })
     }
-    let Some(set) = least(alloc, store, free, seed)? else {
+
+    /// The guess of a seed, as `aux_guess` gives it. Seeds are asked in ascending order.
+    pub fn guess(&mut self, alloc: Global, store: &Store, seed: u64) -> Result<Guess, NoGuess>
+        requires first { 1 ≤ seed }
+        requires last { seed ≤ store.now.vars }
+        requires table { IsSeedTable store.now self.old }
+        requires later { self.old.from ≤ seed }
+        ensures guess { IfOk result (λ g. IsSeedGuess store.now seed g.group g.ids) }
+        ensures refused { IfErr result (IsRefused (constraints_of store.now.live) seed) }
+        ensures table { IsSeedTable store.now self.new }
+        ensures from { self.new.from ≤ seed }
+    {
+        let _vars = store.vars();
+        self.from = seed;
+        if !self.seeds.is_up(seed) {
+            return Err(NoGuess::NotSeed);
+        }
+        let later = Later {
+            seed,
+            free: self.free.all(),
+        };
+        seed_guess(alloc, store, &mut self.entries, &mut self.members, &later)
+    }
+
+    /// The group was taken out of the store, and its klause has come.
+    pub fn took(&mut self, group: &Group)
+        ensures table { (s : Stored) (seed : ℕ) (ids : List ℕ) (bound : ℕ) → IsStored s → IsSeedTable s self.old → IsSeedGuess s seed group.now ids → 2 ≤ bound → IsSeedTable (replaced s (touches group.now.aux) (klause bound group.now.border)) self.new }
+        ensures from { self.new.from ≡ self.old.from }
+    {
+        self.free.lower_lits(group.border());
+        self.seeds.lower_lits(group.border());
+        self.seeds.lower_all(group.aux());
+    }
+}
+
+fn seed_guess(
+    alloc: Global,
+    store: &Store,
+    entries: &mut Vec<Numbers>,
+    members: &mut Vec<Numbers>,
+    later: &Later,
+) -> Result<Guess, NoGuess>
+    requires first { 1 ≤ later.now.seed }
+    requires last { later.now.seed ≤ store.now.vars }
+    requires seed { is_seed (constraints_of store.now.live) later.now.seed ≡ true }
+    requires seen { IsSeen store.now later.now.free.now }
+    requires stored { IsStored store.now }
+    requires near { IsNear store.now later.now.seed entries.old.items members.old.items }
+    ensures near { IsNear store.now later.now.seed entries.new.items members.new.items }
+    ensures guess { IfOk result (λ g. IsSeedGuess store.now later.now.seed g.group g.ids) }
+    ensures refused { IfErr result (IsRefused (constraints_of store.now.live) later.now.seed) }
+{
+    let Some(set) = least(alloc, store, entries, members, later)? else {
         return Err(NoGuess::TooMany);
     };
     let aux = ascending(Vec::from_slice(alloc, set.vars())?);

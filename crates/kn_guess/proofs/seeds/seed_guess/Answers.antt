@@ -44,13 +44,13 @@ returns-in-Ok-clause-guess c =
     let cs = constraints_of s.live in
     let aux = c.ascending-aux.result.items in
     let numbers = c.in_ok-from_slice.ensures.items ∙ c.vars.ensures in
-    let least = subst (λ o. IfSome o (IsLeastFrom cs c.args.seed)) c.in-Some.is c.in_ok-set.ensures.least in
+    let least = subst (λ o. IfSome o (IsLeastFrom cs c.args.later.now.seed)) c.in-Some.is c.in_ok-set.ensures.least in
     let few = subst (λ o. IfSome o (λ set. AreApart set × (length set ≤ 256))) c.in-Some.is c.in_ok-set.ensures.few in
     let short = c.ascending-aux.ensures.short in
     let n = ap length numbers in
     let edge = subst (λ z. IsBorder (filter (touches z) cs) z c.in-Ok.border.items) c.deref.ensures.value c.in-Ok.ensures.ok.0 in
-    guess-is s c.args.seed aux c.in-Ok.border.items c.in_ok-taken-in-Ok.field-0.group c.in_ok-taken-in-Ok.field-0.ids (sym c.is_seed.ensures ∙ c.if-not-is_seed.false) c.ascending-aux.ensures.ascending
-    (least-same cs c.args.seed c.in-Some.set aux (λ x. c.ascending-aux.ensures.same x ∙ ap (λ z. is_among z x) numbers) least) (let f = few.1 in omega (arith, short, n, f))
+    guess-is s c.args.later.now.seed aux c.in-Ok.border.items c.in_ok-taken-in-Ok.field-0.group c.in_ok-taken-in-Ok.field-0.ids c.requires.seed c.ascending-aux.ensures.ascending
+    (least-same cs c.args.later.now.seed c.in-Some.set aux (λ x. c.ascending-aux.ensures.same x ∙ ap (λ z. is_among z x) numbers) least) (let f = few.1 in omega (arith, short, n, f))
     edge c.in-Ok.ensures.ok.1 c.in-Ok.ensures.ok.2 c.in_ok-taken-in-Ok.ensures.aux c.in_ok-taken-in-Ok.ensures.border c.in_ok-taken-in-Ok.ensures.taken c.in_ok-taken-in-Ok.ensures.ids
 
 pub returns-clause-refused : goal.returns-clause-refused
@@ -59,10 +59,10 @@ returns-clause-refused c =
     let cs = constraints_of s.live in
     let aux = c.ascending-aux.result.items in
     let numbers = c.in_ok-from_slice.ensures.items ∙ c.vars.ensures in
-    let least = subst (λ o. IfSome o (IsLeastFrom cs c.args.seed)) c.in-Some.is c.in_ok-set.ensures.least in
+    let least = subst (λ o. IfSome o (IsLeastFrom cs c.args.later.now.seed)) c.in-Some.is c.in_ok-set.ensures.least in
     let few = subst (λ o. IfSome o (λ set. AreApart set × (length set ≤ 256))) c.in-Some.is c.in_ok-set.ensures.few in
     let short = c.ascending-aux.ensures.short in
     let n = ap length numbers in
-    refused-border cs c.args.seed aux c.in-Err.why (sym c.is_seed.ensures ∙ c.if-not-is_seed.false)
-    (least-same cs c.args.seed c.in-Some.set aux (λ x. c.ascending-aux.ensures.same x ∙ ap (λ z. is_among z x) numbers) least) (let f = few.1 in omega (arith, short, n, f))
+    refused-border cs c.args.later.now.seed aux c.in-Err.why c.requires.seed
+    (least-same cs c.args.later.now.seed c.in-Some.set aux (λ x. c.ascending-aux.ensures.same x ∙ ap (λ z. is_among z x) numbers) least) (let f = few.1 in omega (arith, short, n, f))
     (subst (λ z. IsBorderRefused (filter (touches z) cs) z c.in-Err.why) c.deref.ensures.value c.in-Err.ensures.err)
