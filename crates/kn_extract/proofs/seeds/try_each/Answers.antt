@@ -1,7 +1,7 @@
-use Rattle.std.proofs.Common.{◌∙◌}
+use Rattle.std.proofs.Common.{◌∙◌, arith}
 use Rattle.kn_extract.specs.Extractions.{IsSeedTaken}
 use Rattle.kn_extract.proofs.Tried.{tried-next}
-use Rattle.kn_extract.proofs.seeds.try_seeds.Goals as goal
+use Rattle.kn_extract.proofs.seeds.try_each.Goals as goal
 
 pub loop-place-preserved : goal.loop-place-preserved
 loop-place-preserved c = record {
@@ -9,4 +9,6 @@ loop-place-preserved c = record {
       c.loop-place.invariant.tried c.in_ok-try_seed.ensures.tried;
   added = c.in_ok-try_seed.ensures.added;
   vars = c.in_ok-try_seed.ensures.vars ∙ c.loop-place.invariant.vars;
+  table = c.in_ok-try_seed.ensures.table;
+  from = omega (arith, c.in_ok-try_seed.ensures.from);
 }
