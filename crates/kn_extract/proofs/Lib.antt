@@ -1,9 +1,15 @@
 mod Lists
 mod Truth
 mod Steps
-mod Seeds
-mod Pairs
+mod SeedSteps
+mod PairSteps
 mod Unique
 mod Moments
 mod Structured
+mod Comments
+mod Stored
+mod Judged
+mod Gone
+mod Worth
+mod Tried
 mod Whole

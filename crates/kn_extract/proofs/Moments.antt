@@ -49,7 +49,7 @@ filter-none : {X : Type 0} (test : X → Bool) (xs : List X) → AllByRecursion 
 filter-none test [] h = refl
 filter-none test (x ∷ xs) h = filter-no test x xs h.0 ∙ filter-none test xs h.1
 
-filter-all : {X : Type 0} (test : X → Bool) (xs : List X) → AllByRecursion (λ x. test x ≡ true) xs → filter test xs ≡ xs
+pub filter-all : {X : Type 0} (test : X → Bool) (xs : List X) → AllByRecursion (λ x. test x ≡ true) xs → filter test xs ≡ xs
 filter-all test [] h = refl
 filter-all test (x ∷ xs) h = filter-yes test x xs h.0 ∙ ap (λ z. x ∷ z) (filter-all test xs h.1)
 
@@ -58,7 +58,7 @@ filter-alike f g [] h = refl
 filter-alike {X} f g (x ∷ xs) h = ap₂ (λ t (z : List X). cond t (x ∷ z) z) h.0 (filter-alike f g xs h.1)
 
 -- a filter behind a filter
-filter-twice : {X : Type 0} (f g : X → Bool) (xs : List X) → filter f (filter g xs) ≡ filter (λ x. g x && f x) xs
+pub filter-twice : {X : Type 0} (f g : X → Bool) (xs : List X) → filter f (filter g xs) ≡ filter (λ x. g x && f x) xs
 filter-twice f g [] = refl
 filter-twice {X} f g (x ∷ xs) = at (g x) (filter-twice f g xs)
   where
@@ -200,7 +200,7 @@ numbered-long : (last : ℕ) (cs : List Bounded) → length (numbered last cs) �
 numbered-long last [] = refl
 numbered-long last (c ∷ cs) = ap suc (numbered-long (last + 1) cs)
 
-numbered-end : (last : ℕ) (cs : List Bounded) (c : Bounded) → numbered last (cs ++ c ∷ []) ≡ numbered last cs ++ record { id = last + length cs + 1; constraint = c } ∷ []
+pub numbered-end : (last : ℕ) (cs : List Bounded) (c : Bounded) → numbered last (cs ++ c ∷ []) ≡ numbered last cs ++ record { id = last + length cs + 1; constraint = c } ∷ []
 numbered-end last [] c = ap (λ n. record { id = n; constraint = c } ∷ []) {x = last + 1} {y = last + 0 + 1} (omega arith)
 numbered-end last (d ∷ cs) c =
     ap (λ z. record { id = last + 1; constraint = d } ∷ z) (numbered-end (last + 1) cs c

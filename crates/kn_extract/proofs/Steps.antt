@@ -123,7 +123,7 @@ step-on values s x t step h =
     })
 
 -- A step keeps what the type of a formula keeps.
-klause-fits : (vars bound : ℕ) (lits : List Literal) → AreKnown vars lits → AreDifferent lits → Fits vars (klause bound lits)
+pub klause-fits : (vars bound : ℕ) (lits : List Literal) → AreKnown vars lits → AreDifferent lits → Fits vars (klause bound lits)
 klause-fits vars bound lits known different = record { within = record { guard = tt; lits = known }; different = λ e. different }
 
 pub step-formula : (s : Stored) (x : Found) (t : Stored) → IsStep s x t → IsFormula (problem_of s) → IsFormula (problem_of t)

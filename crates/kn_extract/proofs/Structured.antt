@@ -14,8 +14,8 @@ use Rattle.kn_format.specs.Grammar.{highest_bound}
 use Rattle.kn_format.specs.Texts.{IsWithinLimits}
 use Rattle.kn_extract.specs.Extractions.{Found, klause_of, IsSeedTaken, IsPairTaken, IsExtraction, numbered, stored_of}
 use Rattle.kn_extract.specs.Structure.{ids_taken, IsRemainder, IsOwned, IsClear, HoldTaken}
-use Rattle.kn_extract.proofs.Seeds.{seed-step}
-use Rattle.kn_extract.proofs.Pairs.{pair-step, Some-inj}
+use Rattle.kn_extract.proofs.SeedSteps.{seed-step}
+use Rattle.kn_extract.proofs.PairSteps.{pair-step, Some-inj}
 use Rattle.kn_extract.proofs.Moments.{IsMoment, IsGone, unused, klauses, tries-moment, start-moment, of-numbered, numbered-rises, all-front, all-back, constraints-append, all-unfilter, all-append}
 
 pub at-end : (f last : Problem) (found : List Found) → IsFormula f → (e : IsExtraction f found last) → IsMoment f found e.rest

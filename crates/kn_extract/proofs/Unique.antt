@@ -14,7 +14,7 @@ use Rattle.kn_store.proofs.Public.{rises}
 use Rattle.kn_guess.specs.Guesses.{joined, candidates, pair_group, touches, stands, is_border, IsSeedGuess, IsPairGuess}
 use Rattle.kn_extract.specs.Extractions.{Found, klause_of, IsSeedTaken, IsPairTaken, Tries, IsExtraction, stored_of, replaced}
 use Rattle.kn_extract.proofs.Lists.{bool-same, numbers-one, literals-one, rises-different}
-use Rattle.kn_extract.proofs.Pairs.{Some-inj}
+use Rattle.kn_extract.proofs.PairSteps.{Some-inj}
 
 -- values under which just so many literals of a list are true
 false-if : (p : Bool) → cond p (not p) (not (not p)) ≡ false

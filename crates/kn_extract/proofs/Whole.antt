@@ -8,8 +8,8 @@ use Rattle.kn_store.specs.Stores.{Stored, constraints_of, problem_of}
 use Rattle.kn_extract.specs.Extractions.{Found, IsSeedTaken, IsPairTaken, IsExtraction, numbered, stored_of, listed, AgreeOff}
 use Rattle.kn_extract.proofs.Moments.{start-same}
 use Rattle.kn_extract.proofs.Steps.{tries-formula, tries-on, tries-back, among-parts}
-use Rattle.kn_extract.proofs.Seeds.{seed-step}
-use Rattle.kn_extract.proofs.Pairs.{pair-step}
+use Rattle.kn_extract.proofs.SeedSteps.{seed-step}
+use Rattle.kn_extract.proofs.PairSteps.{pair-step}
 
 pub start-formula : (f : Problem) → IsFormula f → IsFormula (problem_of (stored_of f))
 start-formula f fits = subst IsFormula (sym (start-same f)) fits

@@ -5,3 +5,4 @@ pub use Rattle.kn_verdict.specs.Cardinals
 pub mod Structure
 pub mod Kept
 pub mod Texts
+pub mod Taking

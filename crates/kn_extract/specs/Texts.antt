@@ -6,6 +6,10 @@ use Rattle.kn_text.specs.Lines.{line_text}
 use Rattle.kn_format.specs.Texts.{knf_text}
 use Rattle.kn_extract.specs.Extractions.{Found}
 
+-- a number with a space before it
+abbrev pub spaced : ℕ → List ℕ
+spaced n = 32 ∷ decimal n
+
 -- the auxiliary variables of a group, ascending
 abbrev pub group_line : List ℕ → List ℕ
 group_line [] = []

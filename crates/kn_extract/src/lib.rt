@@ -4,12 +4,21 @@
 //! `specs/Structure.antt`.
 #![tactic(auto)]
 
+mod counting;
+mod extracting;
 mod extraction;
 mod laws;
+mod seeds;
+mod starts;
+mod storing;
 mod taken;
+mod taking;
+mod text;
 
+pub use extracting::extract;
 pub use extraction::Extraction;
 pub use laws::{
     an_extraction_is_one, an_extraction_keeps_models, groups_stand_apart, what_remains_is_known,
 };
 pub use taken::Taken;
+pub use text::extraction_text;

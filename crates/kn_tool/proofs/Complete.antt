@@ -7,7 +7,7 @@ use Rattle.kn_format.specs.Faults.{IsFirstFault, refusal}
 use Rattle.kn_rules.specs.Proofs.{IsProof, IsFirstWrong, fault}
 use Rattle.kn_tool.specs.declared.answer.Answer.{Answer}
 use Rattle.kn_tool.specs.declared.answer.Answer.TheVariants.{Refused, NoMemory}
-use Rattle.kn_tool.specs.Words.{Asked, check, solve, convert, trim, HasShape, AsksFor}
+use Rattle.kn_tool.specs.Words.{Asked, check, solve, extract, convert, trim, HasShape, AsksFor}
 use Rattle.kn_tool.proofs.Shapes.{one_command}
 use Rattle.kn_tool.specs.Changes.{Change, Source, Sink, GivesAll, GivesTooMany, NoFault, IsSound, IsQuiet, most_bytes}
 use Rattle.kn_tool.specs.Files as files
@@ -16,6 +16,8 @@ use Rattle.kn_tool.specs.Checks as checks
 use Rattle.kn_tool.specs.Checks.{CheckRow, Decides}
 use Rattle.kn_tool.specs.Solves as solves
 use Rattle.kn_tool.specs.Solves.{SolveRow, Concludes}
+use Rattle.kn_tool.specs.Extracts as extracts
+use Rattle.kn_tool.specs.Extracts.{ExtractRow, Extracted}
 use Rattle.kn_tool.specs.Conversions as conversions
 use Rattle.kn_tool.specs.Conversions.{ConvertRow, ConvertedRow, Converts}
 use Rattle.kn_tool.specs.Trims as trims
@@ -89,6 +91,12 @@ solve_complete budget formula proof text answer told sound quiet (files.accepted
 solve_complete budget formula proof text answer told sound quiet (files.no_formula none same) =
     no_formula (Concludes text) formula text answer told sound (λ line why known. known) tt none
 
+extract_complete : (formula : Change Source) (text : List ℕ) (answer : Answer) (told : Option (List ℕ)) → IsSound formula text → ExtractRow formula answer told → Extracted text answer
+extract_complete formula text answer told sound (files.accepted f accepts (extracts.done written is)) = (f, spelled formula text f sound accepts)
+extract_complete formula text answer told sound (files.accepted f accepts extracts.no_memory) = tt
+extract_complete formula text answer told sound (files.no_formula none same) =
+    no_formula (Extracted text) formula text answer told sound (λ line why known. known) tt none
+
 converted_complete : (s : Change Source) (text : List ℕ) (f : Problem) (answer : Answer) (told : Option (List ℕ)) → Spells text f → ConvertedRow f answer told → Converts text answer
 converted_complete s text f answer told spells (conversions.done countable same) = (f, spells, countable)
 converted_complete s text f answer told spells (conversions.too_large large) = inr (refl, refl, (f, spells, large))
@@ -116,6 +124,7 @@ trim_complete formula proof text more answer told sound also (files.no_formula n
 row_complete : (asked : Asked) (all : Files) (out : Change Sink) (answer : Answer) (told : Option (List ℕ)) → RowOf (Some asked) all answer told → CompleteOf asked all out answer
 row_complete (check f p) all out answer told row = λ text more sound also quiet. check_complete all.formula all.proof_in text more answer told sound also row
 row_complete (solve f p conflicts forget) all out answer told row = λ text sound proof_quiet quiet. solve_complete conflicts all.formula all.proof_out text answer told sound proof_quiet row
+row_complete (extract f) all out answer told row = λ text sound quiet. extract_complete all.formula text answer told sound row
 row_complete (convert f) all out answer told row = λ text sound quiet. convert_complete all.formula text answer told sound row
 row_complete (trim f p) all out answer told row = λ text more sound also quiet. trim_complete all.formula all.proof_in text more answer told sound also row
 
@@ -123,6 +132,7 @@ row_complete (trim f p) all out answer told row = λ text more sound also quiet.
 never_cut : (asked : Asked) (all : Files) (out : Change Sink) (answer : Answer) → Rose out.old.faults out.new.faults → CompleteOf asked all out answer
 never_cut (check f p) all out answer rose = λ text more sound also quiet. absurd (no_rise _ _ quiet rose)
 never_cut (solve f p conflicts forget) all out answer rose = λ text sound proof_quiet quiet. absurd (no_rise _ _ quiet rose)
+never_cut (extract f) all out answer rose = λ text sound quiet. absurd (no_rise _ _ quiet rose)
 never_cut (convert f) all out answer rose = λ text sound quiet. absurd (no_rise _ _ quiet rose)
 never_cut (trim f p) all out answer rose = λ text more sound also quiet. absurd (no_rise _ _ quiet rose)
 

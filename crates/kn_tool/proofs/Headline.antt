@@ -6,7 +6,7 @@ use Rattle.kn_tool.specs.declared.answer.Which.{Which}
 use Rattle.kn_tool.specs.declared.answer.Which.TheVariants.{Out}
 use Rattle.kn_tool.specs.declared.answer.Answer.{Answer}
 use Rattle.kn_tool.specs.declared.answer.Answer.TheVariants.{Refused, TooLong, ReadFault, WriteFault, NoMemory}
-use Rattle.kn_tool.specs.Words.{Asked, check, solve, convert, trim, HasShape, AsksFor}
+use Rattle.kn_tool.specs.Words.{Asked, check, solve, extract, convert, trim, HasShape, AsksFor}
 use Rattle.kn_tool.proofs.Shapes.{one_command}
 use Rattle.kn_tool.specs.Changes.{Change, Source, Sink}
 use Rattle.kn_tool.specs.Files as files
@@ -15,6 +15,8 @@ use Rattle.kn_tool.specs.Checks as checks
 use Rattle.kn_tool.specs.Checks.{CheckRow, CheckHeadline}
 use Rattle.kn_tool.specs.Solves as solves
 use Rattle.kn_tool.specs.Solves.{SolveRow, SolveHeadline}
+use Rattle.kn_tool.specs.Extracts as extracts
+use Rattle.kn_tool.specs.Extracts.{ExtractRow, ExtractHeadline}
 use Rattle.kn_tool.specs.Conversions as conversions
 use Rattle.kn_tool.specs.Conversions.{ConvertRow, ConvertedRow, ConvertHeadline}
 use Rattle.kn_tool.specs.Trims as trims
@@ -52,6 +54,11 @@ solve_headline budget formula proof out answer told got (files.accepted f accept
 solve_headline budget formula proof out answer told got (files.accepted f accepts (solves.fails rose front)) = tt
 solve_headline budget formula proof out answer told got (files.no_formula none same) = no_formula (SolveHeadline budget formula proof out) formula answer told (λ w. tt) (λ w. tt) tt (λ line why. tt) none
 
+extract_headline : (formula : Change Source) (out : Change Sink) (answer : Answer) (told : Option (List ℕ)) → GotText out told → ExtractRow formula answer told → ExtractHeadline formula out answer
+extract_headline formula out answer told got (files.accepted f accepts (extracts.done text is)) = (f, text, accepts, is, got)
+extract_headline formula out answer told got (files.accepted f accepts extracts.no_memory) = tt
+extract_headline formula out answer told got (files.no_formula none same) = no_formula (ExtractHeadline formula out) formula answer told (λ w. tt) (λ w. tt) tt (λ line why. tt) none
+
 converted_headline : (formula : Change Source) (out : Change Sink) (f : Problem) (answer : Answer) (told : Option (List ℕ)) → Accepts formula f → GotText out told → ConvertedRow f answer told → ConvertHeadline formula out answer
 converted_headline formula out f answer told accepts got (conversions.done countable same) = (f, accepts, got, same)
 converted_headline formula out f answer told accepts got (conversions.too_large large) = tt
@@ -71,6 +78,7 @@ trim_headline formula proof out answer told got (files.no_formula none same) = n
 row_headline : (asked : Asked) (all : Files) (out : Change Sink) (answer : Answer) (told : Option (List ℕ)) → GotText out told → RowOf (Some asked) all answer told → HeadlineOf asked all out answer
 row_headline (check f p) all out answer told got row = check_headline all.formula all.proof_in answer told row
 row_headline (solve f p conflicts forget) all out answer told got row = solve_headline conflicts all.formula all.proof_out out answer told got row
+row_headline (extract f) all out answer told got row = extract_headline all.formula out answer told got row
 row_headline (convert f) all out answer told got row = convert_headline all.formula out answer told got row
 row_headline (trim f p) all out answer told got row = trim_headline all.formula all.proof_in out answer told got row
 
@@ -78,6 +86,7 @@ row_headline (trim f p) all out answer told got row = trim_headline all.formula 
 cut_headline : (asked : Asked) (all : Files) (out : Change Sink) → HeadlineOf asked all out (WriteFault Out)
 cut_headline (check f p) all out = tt
 cut_headline (solve f p conflicts forget) all out = tt
+cut_headline (extract f) all out = tt
 cut_headline (convert f) all out = tt
 cut_headline (trim f p) all out = tt
 

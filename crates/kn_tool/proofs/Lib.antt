@@ -4,5 +4,6 @@ pub mod Shapes
 pub mod Replies
 pub mod Readings
 pub mod Solved
+pub mod Limits
 pub mod Complete
 pub mod Headline

@@ -3,7 +3,7 @@ use Rattle.std.proofs.Common.{◌≡◌, ℕ, List, [], ◌∷◌, Option, Some,
 use Rattle.std.specs.Prelude.{if◌then◌else◌, option_map, codes}
 use Rattle.std.specs.Str.{bytes_eq}
 use Rattle.kn_tool.specs.declared.command.Command.{Command}
-use Rattle.kn_tool.specs.Words.{Asked, check, solve, convert, trim, AsksCheck, AsksSolve, AsksConvert, AsksTrim, HasShape, HasNoShape, AsksFor, Named, names_of, asked_by, SpellsOptions, SpellsOption, SpellsBoth, SpellsConflicts, SpellsForget, count_of, default_conflicts, default_forget}
+use Rattle.kn_tool.specs.Words.{Asked, check, solve, extract, convert, trim, AsksCheck, AsksSolve, AsksExtract, AsksConvert, AsksTrim, HasShape, HasNoShape, AsksFor, Named, names_of, asked_by, SpellsOptions, SpellsOption, SpellsBoth, SpellsConflicts, SpellsForget, count_of, default_conflicts, default_forget}
 
 -- a budget, and how many clauses are kept
 record Limit : Type 0 where
@@ -58,6 +58,10 @@ abbrev solve_in : List (List ℕ) → Option Asked
 solve_in (f ∷ p ∷ options) = option_map (λ (l : Limit). solve f p l.conflicts l.forget) (limits_in options)
 solve_in words = None
 
+abbrev extract_in : List (List ℕ) → Option Asked
+extract_in (f ∷ []) = Some (extract f)
+extract_in words = None
+
 abbrev convert_in : List (List ℕ) → Option Asked
 convert_in (f ∷ []) = Some (convert f)
 convert_in words = None
@@ -70,6 +74,7 @@ abbrev behind : List ℕ → List (List ℕ) → Option Asked
 behind name words =
     if bytes_eq name (codes "check") then check_in words
     else if bytes_eq name (codes "solve") then solve_in words
+    else if bytes_eq name (codes "extract") then extract_in words
     else if bytes_eq name (codes "convert") then convert_in words
     else if bytes_eq name (codes "trim") then trim_in words
     else None
@@ -93,6 +98,12 @@ solve_found (a ∷ b ∷ c ∷ options) f p conflicts forget is =
     let found : limits_in options ≡ Some (limit conflicts forget) = limits_found options conflicts forget is.5 in
     rw (is.0, is.1, is.2) (ap (λ l. option_map (λ (l : Limit). solve f p l.conflicts l.forget) l) found)
 
+extract_found : (words : List (List ℕ)) (f : List ℕ) → AsksExtract words f → asked_in words ≡ Some (extract f)
+extract_found [] f is = absurd is
+extract_found (a ∷ []) f is = absurd is
+extract_found (a ∷ b ∷ []) f is = rw (is.0, is.1) refl
+extract_found (a ∷ b ∷ c ∷ more) f is = absurd is
+
 convert_found : (words : List (List ℕ)) (f : List ℕ) → AsksConvert words f → asked_in words ≡ Some (convert f)
 convert_found [] f is = absurd is
 convert_found (a ∷ []) f is = absurd is
@@ -109,6 +120,7 @@ trim_found (a ∷ b ∷ c ∷ d ∷ more) f p is = absurd is
 found : (words : List (List ℕ)) (asked : Asked) → HasShape words asked → asked_in words ≡ Some asked
 found words (check f p) is = check_found words f p is
 found words (solve f p conflicts forget) is = solve_found words f p conflicts forget is
+found words (extract f) is = extract_found words f is
 found words (convert f) is = convert_found words f is
 found words (trim f p) is = trim_found words f p is
 

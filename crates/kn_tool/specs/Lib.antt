@@ -4,6 +4,7 @@ pub mod Changes
 pub mod Files
 pub mod Checks
 pub mod Solves
+pub mod Extracts
 pub mod Conversions
 pub mod Trims
 pub mod Outcomes

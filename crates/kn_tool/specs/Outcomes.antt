@@ -4,12 +4,13 @@ use Rattle.kn_bytes.specs.Outside.{Rose, Got, GotPrefix}
 use Rattle.kn_tool.specs.declared.answer.Which.TheVariants.{Out}
 use Rattle.kn_tool.specs.declared.answer.Answer.{Answer}
 use Rattle.kn_tool.specs.declared.answer.Answer.TheVariants.{Usage, WriteFault}
-use Rattle.kn_tool.specs.Words.{Asked, check, solve, convert, trim, AsksFor}
+use Rattle.kn_tool.specs.Words.{Asked, check, solve, extract, convert, trim, AsksFor}
 use Rattle.kn_tool.specs.Answers.{usage_text}
 use Rattle.kn_tool.specs.Changes.{Change, Source, Sink, IsSound, IsQuiet}
 use Rattle.kn_tool.specs.Files.{Rows}
 use Rattle.kn_tool.specs.Checks.{CheckRow, CheckHeadline, Decides}
 use Rattle.kn_tool.specs.Solves.{SolveRow, SolveHeadline, Concludes}
+use Rattle.kn_tool.specs.Extracts.{ExtractRow, ExtractHeadline, Extracted}
 use Rattle.kn_tool.specs.Conversions.{ConvertRow, ConvertHeadline, Converts}
 use Rattle.kn_tool.specs.Trims.{TrimRow, TrimHeadline, Shortened}
 
@@ -27,6 +28,7 @@ abbrev pub RowOf : Option Asked → Files → Answer → Option (List ℕ) → T
 RowOf None files answer told = (answer ≡ Usage) × (told ≡ Some usage_text)
 RowOf (Some (check formula proof)) files answer told = CheckRow files.formula files.proof_in answer told
 RowOf (Some (solve formula proof conflicts forget)) files answer told = SolveRow conflicts files.formula files.proof_out answer told
+RowOf (Some (extract formula)) files answer told = ExtractRow files.formula answer told
 RowOf (Some (convert formula)) files answer told = ConvertRow files.formula answer told
 RowOf (Some (trim formula proof)) files answer told = TrimRow files.formula files.proof_in answer told
 
@@ -46,6 +48,7 @@ Tells words files out answer = (request : Option Asked) × AsksFor words request
 abbrev pub HeadlineOf : Asked → Files → Change Sink → Answer → Type 0
 HeadlineOf (check formula proof) files out answer = CheckHeadline files.formula files.proof_in answer
 HeadlineOf (solve formula proof conflicts forget) files out answer = SolveHeadline conflicts files.formula files.proof_out out answer
+HeadlineOf (extract formula) files out answer = ExtractHeadline files.formula out answer
 HeadlineOf (convert formula) files out answer = ConvertHeadline files.formula out answer
 HeadlineOf (trim formula proof) files out answer = TrimHeadline files.formula files.proof_in out answer
 
@@ -56,6 +59,8 @@ CompleteOf (check formula proof) files out answer =
     (text : List ℕ) (more : List ℕ) → IsSound files.formula text → IsSound files.proof_in more → IsQuiet out → Decides text more answer
 CompleteOf (solve formula proof conflicts forget) files out answer =
     (text : List ℕ) → IsSound files.formula text → IsQuiet files.proof_out → IsQuiet out → Concludes text answer
+CompleteOf (extract formula) files out answer =
+    (text : List ℕ) → IsSound files.formula text → IsQuiet out → Extracted text answer
 CompleteOf (convert formula) files out answer =
     (text : List ℕ) → IsSound files.formula text → IsQuiet out → Converts text answer
 CompleteOf (trim formula proof) files out answer =

@@ -11,6 +11,7 @@ use Rattle.kn_tool.specs.declared.command.Names.{Names}
 pub data Asked : Type 0 where
   check : List ℕ → List ℕ → Asked
   solve : List ℕ → List ℕ → ℕ → ℕ → Asked
+  extract : List ℕ → Asked
   convert : List ℕ → Asked
   trim : List ℕ → List ℕ → Asked
 
@@ -66,6 +67,11 @@ AsksSolve (name ∷ f ∷ p ∷ options) formula proof conflicts forget =
     (name ≡ codes "solve") × (f ≡ formula) × (p ≡ proof) × IsName formula × IsName proof × SpellsOptions options conflicts forget
 AsksSolve words formula proof conflicts forget = ⊥
 
+-- `extract F`
+abbrev pub AsksExtract : List (List ℕ) → List ℕ → Type 0
+AsksExtract (name ∷ f ∷ []) formula = (name ≡ codes "extract") × (f ≡ formula) × IsName formula
+AsksExtract words formula = ⊥
+
 -- `convert F`
 abbrev pub AsksConvert : List (List ℕ) → List ℕ → Type 0
 AsksConvert (name ∷ f ∷ []) formula = (name ≡ codes "convert") × (f ≡ formula) × IsName formula
@@ -80,6 +86,7 @@ AsksTrim words formula proof = ⊥
 abbrev pub HasShape : List (List ℕ) → Asked → Type 0
 HasShape words (check formula proof) = AsksCheck words formula proof
 HasShape words (solve formula proof conflicts forget) = AsksSolve words formula proof conflicts forget
+HasShape words (extract formula) = AsksExtract words formula
 HasShape words (convert formula) = AsksConvert words formula
 HasShape words (trim formula proof) = AsksTrim words formula proof
 
@@ -99,6 +106,7 @@ texts words = map (λ word. word.items) words
 abbrev pub asked_by : Command → Asked
 asked_by (command.Check formula proof) = check formula.now proof.now
 asked_by (command.Solve formula proof conflicts forget) = solve formula.now proof.now conflicts forget
+asked_by (command.Extract formula) = extract formula.now
 asked_by (command.Convert formula) = convert formula.now
 asked_by (command.Trim formula proof) = trim formula.now proof.now
 
@@ -111,6 +119,7 @@ pub record Named : Type 0 where
 abbrev pub named_by : Asked → Named
 named_by (check formula proof) = record { formula = Some formula; proof_in = Some proof; proof_out = None }
 named_by (solve formula proof conflicts forget) = record { formula = Some formula; proof_in = None; proof_out = Some proof }
+named_by (extract formula) = record { formula = Some formula; proof_in = None; proof_out = None }
 named_by (convert formula) = record { formula = Some formula; proof_in = None; proof_out = None }
 named_by (trim formula proof) = record { formula = Some formula; proof_in = Some proof; proof_out = None }
 

@@ -1,5 +1,5 @@
 ghost use Rattle.std.specs.Prelude.{◌≡◌, ◌↔◌, ℕ, List, IfSome, IfNone, IsTrue, codes, option_map};
-ghost use Rattle.kn_tool.specs.Words.{AsksCheck, AsksSolve, AsksConvert, AsksTrim, HasShape, AsksFor, SpellsOption, SpellsBoth, SpellsOptions, count_of, texts, asked_by};
+ghost use Rattle.kn_tool.specs.Words.{AsksCheck, AsksSolve, AsksExtract, AsksConvert, AsksTrim, HasShape, AsksFor, SpellsOption, SpellsBoth, SpellsOptions, count_of, texts, asked_by};
 
 use kn_text::number;
 
@@ -18,6 +18,10 @@ pub enum Command<'a> {
         proof: &'a [u8],
         conflicts: u64,
         forget: u64,
+    },
+    /// Find the hidden counts of a formula, and write it with klauses: the name of its file.
+    Extract {
+        formula: &'a [u8],
     },
     /// Turn a formula into clauses: the name of its file.
     Convert {
@@ -50,6 +54,9 @@ pub fn parse<'a>(words: &'a [Vec<u8>]) -> Option<Command<'a>>
         return Some(command);
     }
     if let Some(command) = solve_command(words) {
+        return Some(command);
+    }
+    if let Some(command) = extract_command(words) {
         return Some(command);
     }
     if let Some(command) = convert_command(words) {
@@ -92,6 +99,18 @@ fn solve_command<'a>(words: &'a [Vec<u8>]) -> Option<Command<'a>>
     }
 }
 
+fn extract_command<'a>(words: &'a [Vec<u8>]) -> Option<Command<'a>>
+    ensures some { IfSome result (λ c. HasShape (texts words.now) (asked_by c)) }
+    ensures none { IfNone result ((formula : List ℕ) → AsksExtract (texts words.now) formula → ⊥) }
+{
+    match words {
+        [name, formula] if is_extract(name) && !formula.is_empty() => Some(Command::Extract {
+            formula: formula.as_slice(),
+        }),
+        _ => None,
+    }
+}
+
 fn convert_command<'a>(words: &'a [Vec<u8>]) -> Option<Command<'a>>
     ensures some { IfSome result (λ c. HasShape (texts words.now) (asked_by c)) }
     ensures none { IfNone result ((formula : List ℕ) → AsksConvert (texts words.now) formula → ⊥) }
@@ -129,6 +148,12 @@ fn is_solve(word: &[u8]) -> bool
     ensures { IsTrue result ↔ (word.now ≡ codes "solve") }
 {
     word == b"solve".as_slice()
+}
+
+fn is_extract(word: &[u8]) -> bool
+    ensures { IsTrue result ↔ (word.now ≡ codes "extract") }
+{
+    word == b"extract".as_slice()
 }
 
 fn is_convert(word: &[u8]) -> bool

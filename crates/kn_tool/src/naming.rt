@@ -19,6 +19,11 @@ pub fn names<'a>(words: &'a [Vec<u8>]) -> Names<'a>
             proof_in: None,
             proof_out: Some(proof),
         },
+        Some(Command::Extract { formula }) => Names {
+            formula: Some(formula),
+            proof_in: None,
+            proof_out: None,
+        },
         Some(Command::Convert { formula }) => Names {
             formula: Some(formula),
             proof_in: None,

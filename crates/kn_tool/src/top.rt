@@ -7,6 +7,7 @@ ghost use Rattle.kn_tool.specs.Replies.{IsReply, IsTold, Sent};
 use crate::answer::USAGE;
 use crate::checking::check_files;
 use crate::converting::convert_file;
+use crate::extracting::extract_file;
 use crate::reply::Reply;
 use crate::solving::solve_file;
 use crate::trimming::trim_files;
@@ -85,6 +86,7 @@ fn carry_out<F: Source, Q: Source, P: Sink>(
                 ..
             },
         ) => solve_file(alloc, formula, proof_out, Options { conflicts, forget }),
+        Some(Command::Extract { .. }) => extract_file(alloc, formula),
         Some(Command::Convert { .. }) => convert_file(alloc, formula),
         Some(Command::Trim { .. }) => trim_files(alloc, formula, proof_in),
         None => Reply::Usage,

@@ -6,11 +6,11 @@ use Rattle.std.proofs.lemmas.Bool.{and_parts, or_cases, or_left, or_right}
 use Rattle.kn_logic.specs.Literals.{Literal, is_same, has, names, AreKnown, IsKnown}
 use Rattle.kn_logic.specs.Constraints.{Bounded, is_clause, named, Fits}
 use Rattle.kn_logic.specs.Formulas.{IsFormula}
-use Rattle.kn_logic.specs.Groups.{is_among}
+use Rattle.kn_logic.specs.Groups.{Gathered, is_among}
 use Rattle.kn_logic.proofs.Public.{All-has, same_literal}
 use Rattle.kn_store.specs.Stores.{Numbered, Stored, constraints_of, chosen, problem_of}
 use Rattle.kn_store.proofs.Public.{all-one, all-two, rises}
-use Rattle.kn_guess.specs.Guesses.{in_klause, in_binary, share, stands, is_seed, IsClosedFrom, IsLeastFrom, touches, IsBorder}
+use Rattle.kn_guess.specs.Guesses.{in_klause, in_binary, share, stands, is_seed, IsClosedFrom, IsLeastFrom, touches, IsBorder, IsSeedGuess}
 use Rattle.kn_extract.specs.Extractions.{Found, IsSeedTaken}
 use Rattle.kn_extract.proofs.Steps.{IsStep, named_in, keep, go, known-named}
 use Rattle.kn_extract.proofs.Lists.{and-both, not-true, any-none, each-none, any-with, passes, own-has, among-filter, rises-different}
@@ -133,6 +133,10 @@ border-some taken set [] is low = absurd (omega (arith, low))
 border-some taken set (l ∷ border) is low =
     any-some (λ c. has (named c) l) taken (and_parts (stands taken l) (not (is_among set l.variable)) (sym (is.1 l) ∙ (own-has (l ∷ border)).0)).0
 
+pub seed-known : (s : Stored) (seed : ℕ) (g : Gathered) (ids : List ℕ) → IsFormula (problem_of s) → IsSeedGuess s seed g ids → AreKnown s.vars g.border
+seed-known s seed g ids fits h = border-known s.vars g.aux g.taken g.border
+    (subst (AllByRecursion (Fits s.vars)) (sym h.taken) (keep (Fits s.vars) (λ p. touches g.aux p.constraint) s.live fits)) h.border
+
 pub seed-step : (s : Stored) (seed : ℕ) (x : Found) (t : Stored) → IsFormula (problem_of s) → IsSeedTaken s seed x t → IsStep s x t
 seed-step s seed x t fits h =
     let g = x.group in
@@ -144,7 +148,7 @@ seed-step s seed x t fits h =
       taken = h.guess.taken;
       clauses = seed-clauses s seed g.aux free h.guess.least;
       apart = λ c e. any-none (λ l. is_among g.aux l.variable) (named c) e;
-      known = border-known s.vars g.aux g.taken g.border (subst (AllByRecursion (Fits s.vars)) (sym h.guess.taken) (keep (Fits s.vars) (λ p. touches g.aux p.constraint) s.live fits)) h.guess.border;
+      known = seed-known s seed g x.ids fits h.guess;
       ascends = h.guess.border.0;
       different = rises-different g.border (rises (map (λ l. l.variable) g.border) h.guess.border.0);
       next = h.next;

@@ -16,7 +16,7 @@ use Rattle.kn_store.proofs.Public.{all-one, all-two, rises}
 use Rattle.kn_guess.specs.Guesses.{joins, joined, candidates, pair_group, IsPairGuess}
 use Rattle.kn_extract.specs.Extractions.{Found, IsPairTaken}
 use Rattle.kn_extract.proofs.Steps.{IsStep, named_in, go}
-use Rattle.kn_extract.proofs.Seeds.{named-from, has-names, any-kept, any-some}
+use Rattle.kn_extract.proofs.SeedSteps.{named-from, has-names, any-kept, any-some}
 use Rattle.kn_extract.proofs.Lists.{and-both, filter-yes, filter-no, own-has, rises-different}
 
 -- what each literal of a list does to a count
@@ -411,12 +411,17 @@ pair-some s start g ids h = at g.border refl
         let m = another g.border (pair-different s start g ids h) h.three l in
         any-some (is_pair_of l m.0) g.taken (pair-each s start g ids h l m.0 (ap (λ z. has z l) e ∙ (own-has (l ∷ lits)).0) m.1 m.2)
 
+-- its border is known
+pub pair-known : (s : Stored) (start : ℕ) (g : Gathered) (ids : List ℕ) → IsFormula (problem_of s) → IsPairGuess s start g ids → AllByRecursion (IsKnown s.vars) g.border
+pair-known s start g ids fits h =
+    let all_known = all-of-joined (IsKnown s.vars) (constraints_of s.live) h.first.lits (candidates s.vars) (found-has (Fits s.vars) s.live start h.first h.there fits).within.lits
+    (candidates-known s.vars 1 s.vars (omega arith) (omega arith)) in
+    all-one (λ l. has g.border l ≡ true) (IsKnown s.vars) (λ l e. All-has (IsKnown s.vars) (pair_group s h.first) l all_known (sym (h.members l) ∙ e)) g.border (own-has g.border)
+
 pub pair-step : (s : Stored) (start : ℕ) (x : Found) (t : Stored) → IsFormula (problem_of s) → IsPairTaken s start x t → IsStep s x t
 pair-step s start x t fits h =
     let g = x.group in
     let cs = constraints_of s.live in
-    let first = h.guess.first in
-    let all_known = all-of-joined (IsKnown s.vars) cs first.lits (candidates s.vars) (found-has (Fits s.vars) s.live start first h.guess.there fits).within.lits (candidates-known s.vars 1 s.vars (omega arith) (omega arith)) in
     let different = pair-different s start g x.ids h.guess in
     record {
       test = is_covered g.border;
@@ -425,7 +430,7 @@ pair-step s start x t fits h =
       clauses = all-one (λ c. is_covered g.border c ≡ true) (λ c. is_clause c ≡ true)
           (λ c e. (and_parts (is_clause c) (is_pair c.lits) (and_parts (is_binary c) (list_all (has g.border) c.lits) e).0).0) (constraints_of (chosen (is_covered g.border) s.live)) (go (is_covered g.border) s.live);
       apart = λ c e. none-among g.aux h.guess.aux (named c);
-      known = all-one (λ l. has g.border l ≡ true) (IsKnown s.vars) (λ l e. All-has (IsKnown s.vars) (joined cs first.lits (candidates s.vars)) l all_known (sym (h.guess.members l) ∙ e)) g.border (own-has g.border);
+      known = pair-known s start g x.ids fits h.guess;
       ascends = h.guess.ascends;
       different = different;
       next = h.next;
