@@ -1,14 +1,13 @@
 -- One watched place more, with an entry of its own in front of the chain of its literal.
-use Rattle.std.proofs.Common.{◌≡◌, ◌≢◌, ℕ, ◌+◌, ◌-◌, ◌*◌, ◌≤◌, ◌<◌, ◌⊎◌, ◌++◌, Bool, true, false, not, ◌||◌, ◌&&◌, cond, eqb, Option, None, List, [], ◌∷◌, length, refl, sym, ap, ◌∙◌, subst, inl, inr, arith}
+use Rattle.std.proofs.Common.{◌≡◌, ◌≢◌, ℕ, ◌+◌, ◌-◌, ◌*◌, ◌≤◌, ◌<◌, ◌⊎◌, ◌++◌, Bool, true, false, ◌&&◌, cond, eqb, List, [], ◌∷◌, length, refl, sym, ap, ◌∙◌, subst, inl, inr, arith}
 use Rattle.std.specs.Prelude.{slice_index_or, slice_set, nat_lt}
-use Rattle.std.proofs.lemmas.Bool.{or_cases, or_left, or_right, eqb-true, eqb-false, eq-eqb, ne_eqb, cases_eq, cases_lt, cases_Bool, cond-true, cond-false, false_from_ne_true, and_parts, and_from, lt-ltb, ltb-true, le-ltb}
+use Rattle.std.proofs.lemmas.Bool.{or_cases, or_left, or_right, eqb-true, eq-eqb, ne_eqb, cases_eq, cases_lt, cond-true, cond-false, false_from_ne_true, and_from, lt-ltb, le-ltb}
 use Rattle.std.proofs.lemmas.List.{get_or-set_same, get_or-set_other, get_or_append_left, get_or_push}
 use Rattle.std.proofs.Math.ListN.{length-set}
 use Rattle.kn_logic.specs.Constraints.{Bounded, IsWithin}
-use Rattle.kn_logic.specs.Literals.{Literal}
 use Rattle.kn_propagate.specs.declared.chains.Spot.{Spot}
 use Rattle.kn_watch.specs.Watches.{listed, lit_at}
-use Rattle.kn_propagate.specs.Chains.{Watching, Chained, at_slot, lit_of_spot, is_in, code, with_chain, with_home, spot_at, hand_of, nobody, IsChain, AreChains, AreLinked, IsStill, AreSpare, IsUnused, AreWithin, cut_of, cut, nothing, unwatched}
+use Rattle.kn_propagate.specs.Chains.{Watching, Chained, at_slot, lit_of_spot, is_in, code, with_chain, with_home, spot_at, hand_of, nobody, IsChain, AreChains, AreLinked, IsStill, AreSpare, IsUnused, AreWithin, cut_of, cut, vacancy}
 use Rattle.kn_propagate.proofs.Laying.{lay, chain_kept, first_once}
 use Rattle.kn_propagate.proofs.Walks.{code_known, listed_known}
 use Rattle.kn_propagate.proofs.Relinking.{a_spot, spot_other, spot_here, not_in}
@@ -38,7 +37,7 @@ stays_in chain e k j x false q i = i
 put_in : (chain : ℕ → List ℕ) (e k : ℕ) → is_in e (with_chain chain k (e ∷ chain k) k) ≡ true
 put_in chain e k = subst (λ (xs : List ℕ). is_in e xs ≡ true) (sym (cond-true (eqb k k) (e ∷ chain k) (chain k) (eq-eqb k k refl))) (or_left (eqb e e) _ (eq-eqb e e refl))
 
-still_watched : (ws new : List Watching) (s x : Spot) → Gains ws new s → (at_slot ws x.owner).watches x.place ≡ true → (at_slot new x.owner).watches x.place ≡ true
+pub still_watched : (ws new : List Watching) (s x : Spot) → Gains ws new s → (at_slot ws x.owner).watches x.place ≡ true → (at_slot new x.owner).watches x.place ≡ true
 still_watched ws new s x g w = elim (cases_eq x.owner s.owner) [
   | inr o ↦ subst (λ (z : Watching). z.watches x.place ≡ true) (sym (g.others x.owner o)) w
   | inl o ↦ (
@@ -174,6 +173,12 @@ pub record Agrees (ws new : List Watching) : Type 0 where
   pub back : (slot place : ℕ) → slot < length new → place < length (listed (at_slot new slot).c) → (at_slot new slot).watches place ≡ true →
       (slot < length ws) × (place < length (listed (at_slot ws slot).c)) × ((at_slot ws slot).watches place ≡ true)
 
+pub agrees_back : (ws new : List Watching) → Agrees ws new → Agrees new ws
+agrees_back ws new a = record {
+  to = λ slot place sl pl w. (let b = a.back slot place sl pl w in (b.0, b.1, b.2, sym (a.to slot place b.0 b.1 b.2).3));
+  back = λ slot place sl pl w. (let b = a.to slot place sl pl w in (b.0, b.1, b.2));
+}
+
 pub still_agrees : (ws new : List Watching) (c : Chained) → Agrees ws new → IsStill ws c → IsStill new c
 still_agrees ws new c a w =
     let l = w.wired.linked in
@@ -306,10 +311,10 @@ unused_pushed c d s n owner zero even sq nq hq rq pq =
 
 -- the list with one constraint cut
 pub at_cut : (ws : List Watching) (slot k : ℕ) → slot < length ws → at_slot (cut ws slot k) slot ≡ cut_of (at_slot ws slot) k
-at_cut ws slot k lt = get_or-set_same ws slot (cut_of (at_slot ws slot) k) (record { id = None; c = nothing; watches = unwatched }) lt
+at_cut ws slot k lt = get_or-set_same ws slot (cut_of (at_slot ws slot) k) vacancy lt
 
 pub off_cut : (ws : List Watching) (slot k x : ℕ) → x ≢ slot → at_slot (cut ws slot k) x ≡ at_slot ws x
-off_cut ws slot k x d = get_or-set_other ws slot x (cut_of (at_slot ws slot) k) (record { id = None; c = nothing; watches = unwatched }) d
+off_cut ws slot k x d = get_or-set_other ws slot x (cut_of (at_slot ws slot) k) vacancy d
 
 pub length-cut : (ws : List Watching) (slot k : ℕ) → length (cut ws slot k) ≡ length ws
 length-cut ws slot k = length-set ws slot (cut_of (at_slot ws slot) k)
@@ -333,6 +338,9 @@ and_no : (b : Bool) → (b && false) ≡ false
 and_no true = refl
 and_no false = refl
 
+pub cut_taken : (ws : List Watching) (slot k : ℕ) → slot < length ws → (at_slot ws slot).watches k ≡ true → (at_slot (cut ws slot (k + 1)) slot).watches k ≡ true
+cut_taken ws slot k lt w = ap (λ (x : Watching). x.watches k) (at_cut ws slot (k + 1) lt) ∙ and_from ((at_slot ws slot).watches k) _ w (lt-ltb k (k + 1) (omega arith))
+
 pub cut_gains : (ws : List Watching) (slot k : ℕ) → slot < length ws → k < length (listed (at_slot ws slot).c) → (at_slot ws slot).watches k ≡ true → Gains (cut ws slot k) (cut ws slot (k + 1)) (a_spot slot k)
 cut_gains ws slot k lt kl w =
     let a = at_cut ws slot k lt in
@@ -343,7 +351,7 @@ cut_gains ws slot k lt kl w =
       same = λ x. c_cut ws slot (k + 1) x lt ∙ sym (c_cut ws slot k x lt);
       others = λ x d. off_cut ws slot (k + 1) x d ∙ sym (off_cut ws slot k x d);
       within = subst (λ (c : Bounded). k < length (listed c)) (sym (c_cut ws slot k slot lt)) kl;
-      taken = ap (λ (x : Watching). x.watches k) b ∙ and_from ((at_slot ws slot).watches k) _ w (lt-ltb k (k + 1) (omega arith));
+      taken = cut_taken ws slot k lt w;
       fresh = ap (λ (x : Watching). x.watches k) a ∙ ap (λ (t : Bool). (at_slot ws slot).watches k && t) (le-ltb k k (omega arith)) ∙ and_no _;
       rest = λ p d. ap (λ (x : Watching). x.watches p) b ∙ more_lt ((at_slot ws slot).watches p) p k d ∙ sym (ap (λ (x : Watching). x.watches p) a);
     }
@@ -360,13 +368,6 @@ agrees_at ws new slot long same others at =
       back = λ x p xl pl w. (let pl2 = subst (λ (c : Bounded). p < length (listed c)) (same x) pl in (omega (arith, xl, long), pl2, sym (watches x p pl2) ∙ w));
     }
 
-pub cut_skips : (ws : List Watching) (slot k : ℕ) → slot < length ws → (at_slot ws slot).watches k ≡ false → Agrees (cut ws slot k) (cut ws slot (k + 1))
-cut_skips ws slot k lt w = agrees_at (cut ws slot k) (cut ws slot (k + 1)) slot (length-cut ws slot (k + 1) ∙ sym (length-cut ws slot k)) (λ x. c_cut ws slot (k + 1) x lt ∙ sym (c_cut ws slot k x lt)) (λ x d. off_cut ws slot (k + 1) x d ∙ sym (off_cut ws slot k x d))
-    (λ p pl. ap (λ (x : Watching). x.watches p) (at_cut ws slot (k + 1) lt) ∙ elim (cases_eq p k) [
-      | inr d ↦ more_lt ((at_slot ws slot).watches p) p k d
-      | inl e ↦ (let f : (at_slot ws slot).watches p ≡ false = ap (at_slot ws slot).watches e ∙ w in ap (λ (t : Bool). t && nat_lt p (k + 1)) f ∙ sym (ap (λ (t : Bool). t && nat_lt p k) f))
-    ] ∙ sym (ap (λ (x : Watching). x.watches p) (at_cut ws slot k lt)))
-
 and_yes : (b : Bool) → (b && true) ≡ b
 and_yes true = refl
 and_yes false = refl
@@ -376,25 +377,6 @@ cut_whole ws slot k lt e = agrees_at (cut ws slot k) ws slot (sym (length-cut ws
     (λ p pl. (
     let pl2 = subst (λ (c : Bounded). p < length (listed c)) (c_cut ws slot k slot lt) pl in
     sym (ap (λ (x : Watching). x.watches p) (at_cut ws slot k lt) ∙ ap (λ (t : Bool). (at_slot ws slot).watches p && t) (lt-ltb p k (omega (arith, pl2, e))) ∙ and_yes _)))
-
--- a new constraint of which nothing is watched yet
-pub cut_first : (ws new : List Watching) (slot : ℕ) → length ws ≡ slot → length new ≡ slot + 1 → ((x : ℕ) → x < slot → at_slot new x ≡ at_slot ws x) → Agrees ws (cut new slot 0)
-cut_first ws new slot a b others =
-    let off = λ (x : ℕ) (xl : x < slot). off_cut new slot 0 x (λ q. omega (arith, q, xl)) ∙ others x xl in
-    record {
-      to = λ x p xl pl w. (
-          let s = off x (omega (arith, xl, a)) in
-          (omega (arith, xl, a, b, length-cut new slot 0), subst (λ (z : Watching). p < length (listed z.c)) (sym s) pl, ap (λ (z : Watching). z.watches p) s ∙ w, ap (λ (z : Watching). lit_at (listed z.c) p) s));
-      back = λ x p xl pl w. elim (cases_lt x slot) [
-        | inl lt ↦ (let s = off x lt in (omega (arith, lt, a), subst (λ (z : Watching). p < length (listed z.c)) s pl, sym (ap (λ (z : Watching). z.watches p) s) ∙ w))
-        | inr ge ↦ (
-            let e : x ≡ slot = omega (arith, ge, xl, b, length-cut new slot 0) in
-            let w2 : (at_slot (cut new slot 0) slot).watches p ≡ true = subst (λ (z : ℕ). (at_slot (cut new slot 0) z).watches p ≡ true) e w in
-            let f = sym (ap (λ (z : Watching). z.watches p) (at_cut new slot 0 (omega (arith, b)))) ∙ w2 in
-            let g = (and_parts ((at_slot new slot).watches p) (nat_lt p 0) f).1 in
-            absurd (omega (arith, ltb-true p 0 g)))
-      ];
-    }
 
 within_of : (c : Chained) (free : List ℕ) → IsChain c.nexts c.spare free → c.spare ≤ length c.nexts
 within_of c [] a = omega (arith, a)

@@ -1,17 +1,16 @@
 -- What the tables keep while the trail grows: constraints that were added are looked at, then all that is new is
 -- visited.
-use Rattle.std.proofs.Common.{◌≡◌, ℕ, zero, suc, ◌+◌, ◌-◌, ◌*◌, ◌^◌, ◌≤◌, ◌<◌, ◌⊎◌, ◌++◌, Bool, true, false, eqb, List, [], ◌∷◌, Option, Some, None, length, take, refl, sym, ap, ◌∙◌, subst, inl, inr, arith}
+use Rattle.std.proofs.Common.{◌≡◌, ℕ, zero, suc, ◌+◌, ◌*◌, ◌≤◌, ◌<◌, true, eqb, List, [], ◌∷◌, length, take, refl, sym, ap, ◌∙◌, subst, inl, inr, arith}
 use Rattle.std.specs.Prelude.{slice_index_or}
 use Rattle.std.proofs.lemmas.Bool.{cases_lt, or_left, or_right, eq-eqb}
 use Rattle.kn_logic.specs.Literals.{Literal, has}
-use Rattle.kn_logic.specs.Constraints.{Bounded}
-use Rattle.kn_logic.specs.Propagation.{open_places, IsShort}
+use Rattle.kn_logic.specs.Propagation.{IsShort}
 use Rattle.kn_watch.specs.declared.trail.Made.{Made}
-use Rattle.kn_watch.specs.Trails.{Trailed, literals, below, IsTrail}
+use Rattle.kn_watch.specs.Trails.{Trailed, literals, below}
 use Rattle.kn_watch.specs.Watches.{listed, NoneFalse, IsSatisfied, IsBroad}
 use Rattle.kn_watch.proofs.Public.{IsTop, below_grown, below_top, below_all, rising_top, within_grown, all_within_grown, satisfied_within, satisfied_quiet, settled_now, settled_grows, consistent_of}
 use Rattle.kn_propagate.specs.declared.chains.Spot.{Spot}
-use Rattle.kn_propagate.specs.Chains.{Watching, Chained, at_slot, is_in, spot_at, IsChain, AreSame, AreKept, IsKept, IsAtRest, IsGrown, AreReasoned, HasReason, AreSpared, AreSettled, IsFresh, IsIdle, IsStill, AreSpare, nobody}
+use Rattle.kn_propagate.specs.Chains.{Watching, Chained, at_slot, is_in, spot_at, IsChain, AreSame, AreKept, IsAtRest, IsGrown, AreReasoned, AreSpared, AreSettled, IsFresh, IsIdle, AreSpare, nobody}
 use Rattle.kn_propagate.specs.Wholes.{IsPending, IsGuarded, IsQuiet, AreFounded, IsTabled}
 use Rattle.kn_propagate.proofs.Resting.{rest_quiet}
 use Rattle.kn_propagate.proofs.Walks.{fresh_on, grown_long, length-literals}

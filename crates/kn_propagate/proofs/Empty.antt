@@ -1,5 +1,5 @@
 -- An engine without constraints.
-use Rattle.std.proofs.Common.{◌≡◌, ℕ, zero, suc, ◌+◌, ◌-◌, ◌*◌, ◌^◌, ◌≤◌, ◌<◌, Bool, true, false, List, [], ◌∷◌, Option, Some, None, length, replicate, refl, sym, ap, ◌∙◌, subst, arith}
+use Rattle.std.proofs.Common.{◌≡◌, ℕ, zero, suc, ◌+◌, ◌*◌, ◌^◌, ◌<◌, List, [], Option, None, length, replicate, refl, ◌∙◌, arith}
 use Rattle.std.specs.Prelude.{slice_index_or}
 use Rattle.std.proofs.lemmas.List.{get_or-replicate}
 use Rattle.kn_propagate.specs.Chains.{hand_of}
@@ -15,7 +15,7 @@ length-zeros (suc n) = omega (arith, length-zeros n)
 head_zero : (n k : ℕ) → k < length (zeros n) → slice_index_or (zeros n) k 0 ≡ 0
 head_zero n k lt = get_or-replicate n k 0 0 (omega (arith, lt, length-zeros n))
 
-tabled_new : (vars n : ℕ) → vars < 2 ^ 32 → n ≡ 2 * vars + 3 → IsTabled (record { vars = vars; level = 0; made = [] }) [] (record { spots = []; nexts = []; heads = zeros n; spare = 0; room = 0 }) 0 []
+tabled_new : (vars n : ℕ) → 2 * vars + 3 < 2 ^ 64 → n ≡ 2 * vars + 3 → IsTabled (record { vars = vars; level = 0; made = [] }) [] (record { spots = []; nexts = []; heads = zeros n; spare = 0; room = 0 }) 0 []
 tabled_new vars n small q = record {
   small = small;
   sized = length-zeros n ∙ q;
@@ -52,7 +52,7 @@ tabled_new vars n small q = record {
   lower = λ k lt. absurd (omega (arith, lt));
 }
 
-pub whole_new : (vars n : ℕ) (find : ℕ → Option ℕ) → vars < 2 ^ 32 → n ≡ 2 * vars + 3 → ((id : ℕ) → find id ≡ None) → IsWhole (record { vars = vars; level = 0; made = [] }) [] (record { spots = []; nexts = []; heads = zeros n; spare = 0; room = 0 }) 0 None [] find
+pub whole_new : (vars n : ℕ) (find : ℕ → Option ℕ) → 2 * vars + 3 < 2 ^ 64 → n ≡ 2 * vars + 3 → ((id : ℕ) → find id ≡ None) → IsWhole (record { vars = vars; level = 0; made = [] }) [] (record { spots = []; nexts = []; heads = zeros n; spare = 0; room = 0 }) 0 None [] find
 whole_new vars n find small q none = record {
   tabled = tabled_new vars n small q;
   index = record {

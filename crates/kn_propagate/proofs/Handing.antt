@@ -1,12 +1,12 @@
 -- What the tables of an engine keep, as its callers see it.
-use Rattle.std.proofs.Common.{◌≡◌, ℕ, zero, suc, ◌+◌, ◌-◌, ◌≤◌, ◌<◌, ◌⊎◌, Bool, true, false, eqb, cond, List, [], ◌∷◌, Option, Some, None, length, map, take, refl, sym, ap, ◌∙◌, subst, inl, inr, arith}
+use Rattle.std.proofs.Common.{◌≡◌, ℕ, zero, suc, ◌+◌, ◌-◌, ◌≤◌, ◌<◌, true, eqb, List, [], ◌∷◌, Option, Some, None, length, refl, sym, ap, ◌∙◌, subst, inl, inr, arith}
 use Rattle.std.specs.Prelude.{slice_get, slice_index_or}
 use Rattle.std.specs.List.{AllByRecursion}
 use Rattle.std.proofs.lemmas.Bool.{eq-eqb, ne_eqb, cond-true, cond-false}
 use Rattle.std.proofs.lemmas.Option.{slice_get_within, slice_get-get_or}
-use Rattle.kn_logic.specs.Literals.{Literal, has, AreKnown}
+use Rattle.kn_logic.specs.Literals.{Literal}
 use Rattle.kn_logic.specs.Constraints.{Bounded, IsWithin}
-use Rattle.kn_logic.specs.Propagation.{IsShort, IsConsistent, IsClosed, after_hint, Forces}
+use Rattle.kn_logic.specs.Propagation.{IsShort, IsConsistent, IsClosed, after_hint}
 use Rattle.kn_logic.proofs.Public.{IsOn, short-conflict}
 use Rattle.kn_watch.specs.declared.trail.Made.{Made}
 use Rattle.kn_watch.specs.Trails.{Trailed, literals, below, IsRising, IsTrail}
@@ -14,9 +14,9 @@ use Rattle.kn_watch.specs.Watches.{IsBinding, IsConflicting}
 use Rattle.kn_watch.proofs.Public.{consistent_of, consistent_below}
 use Rattle.kn_propagate.specs.declared.step.Step.{Step}
 use Rattle.kn_propagate.specs.declared.step.Step.TheVariants.{Closed, Conflict}
-use Rattle.kn_propagate.specs.Chains.{Watching, Chained, at_slot, IsKept, AreKept}
-use Rattle.kn_propagate.specs.Engines.{Live, Engined, constraints, live_in, AreApart, IsForcedAt, IsConflict, HasStepped, IsEngine}
-use Rattle.kn_propagate.specs.Wholes.{with_live, live_of, IsIndex, IsQuiet, AreFounded, AreBegun, Says, IsWhole}
+use Rattle.kn_propagate.specs.Chains.{Watching, Chained, at_slot}
+use Rattle.kn_propagate.specs.Engines.{Live, constraints, live_in, AreApart, HasStepped, IsEngine}
+use Rattle.kn_propagate.specs.Wholes.{with_live, live_of, IsIndex, IsQuiet, AreBegun, Says, IsWhole}
 
 -- no two slots have one id
 abbrev pub AreDistinct : List Watching → Type 0

@@ -1,19 +1,18 @@
 -- An engine after a literal was assumed, and after going back to a level.
-use Rattle.std.proofs.Common.{◌≡◌, ◌≢◌, ℕ, zero, suc, ◌+◌, ◌-◌, ◌*◌, ◌^◌, ◌≤◌, ◌<◌, ◌⊎◌, ◌++◌, min, Bool, true, false, List, [], ◌∷◌, Option, Some, None, length, take, refl, sym, ap, ◌∙◌, subst, inl, inr, arith}
+use Rattle.std.proofs.Common.{◌≡◌, ℕ, zero, suc, ◌+◌, ◌*◌, ◌≤◌, ◌<◌, ◌++◌, min, true, List, [], ◌∷◌, Option, Some, None, length, take, refl, sym, ap, ◌∙◌, subst, inl, inr, arith}
 use Rattle.std.proofs.lemmas.Bool.{cases_lt, or_cases, or_left, or_right}
 use Rattle.std.proofs.lemmas.List.{map-append, take-append-le}
 use Rattle.kn_logic.specs.Literals.{Literal, is_same, has}
-use Rattle.kn_logic.specs.Constraints.{Bounded}
 use Rattle.kn_logic.specs.Propagation.{open_places, IsShort}
 use Rattle.kn_watch.specs.declared.trail.Made.{Made}
 use Rattle.kn_watch.specs.Trails.{Trailed, literals, below, IsRising, IsTrail, IsFront, Grows}
-use Rattle.kn_watch.specs.Watches.{listed, NoneFalse, IsSatisfied, IsBroad}
+use Rattle.kn_watch.specs.Watches.{listed, NoneFalse, IsSatisfied}
 use Rattle.kn_watch.proofs.Public.{Within, IsTop, rising_top, below_top, below_grown, below_within, below_twice, below_all, settled_now, settled_grows, none_false_within, tight}
 use Rattle.kn_propagate.specs.declared.step.Step.{Step}
 use Rattle.kn_propagate.specs.declared.step.Step.TheVariants.{Closed, Conflict}
 use Rattle.kn_propagate.specs.Engines.{closed_only}
-use Rattle.kn_propagate.specs.Chains.{Watching, Chained, at_slot, AreKept, IsAtRest, IsFresh}
-use Rattle.kn_propagate.specs.Wholes.{AreFounded, IsPending, IsGuarded, IsQuiet, Says, IsTabled, IsWhole}
+use Rattle.kn_propagate.specs.Chains.{Watching, Chained, at_slot, AreKept, IsAtRest}
+use Rattle.kn_propagate.specs.Wholes.{AreFounded, IsQuiet, Says, IsTabled, IsWhole}
 use Rattle.kn_propagate.proofs.Resting.{rest_back}
 use Rattle.kn_propagate.proofs.Walks.{has_take, length-literals}
 use Rattle.kn_propagate.proofs.Advancing.{take_whole}

@@ -9,6 +9,8 @@ pub mod Walks
 pub mod Reasons
 pub mod Lifting
 pub mod Adding
+pub mod Releasing
+pub mod Changing
 pub mod Handing
 pub mod Empty
 pub mod Founding
@@ -17,3 +19,4 @@ pub mod Advancing
 pub mod Placing
 pub mod Engined
 pub mod Levels
+pub mod Removing

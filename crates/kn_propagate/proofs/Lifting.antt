@@ -1,5 +1,5 @@
 -- A chain is put into the empty hand.
-use Rattle.std.proofs.Common.{◌≡◌, ◌≢◌, ℕ, ◌+◌, ◌-◌, ◌*◌, ◌≤◌, ◌<◌, ◌⊎◌, ◌++◌, Bool, true, false, not, ◌||◌, cond, eqb, List, [], ◌∷◌, length, refl, sym, ap, ◌∙◌, subst, inl, inr, arith}
+use Rattle.std.proofs.Common.{◌≡◌, ◌≢◌, ℕ, ◌-◌, ◌<◌, ◌⊎◌, Bool, true, false, cond, eqb, List, [], length, refl, sym, ap, ◌∙◌, subst, inl, inr, arith}
 use Rattle.std.specs.Prelude.{slice_index_or, slice_set}
 use Rattle.std.proofs.lemmas.Bool.{eq-eqb, ne_eqb, eqb-true, eqb-false, cases_eq, cond-true, cond-false}
 use Rattle.std.proofs.lemmas.List.{get_or-set_same, get_or-set_other}
@@ -7,8 +7,8 @@ use Rattle.std.proofs.Math.ListN.{length-set}
 use Rattle.kn_logic.specs.Literals.{Literal}
 use Rattle.kn_watch.specs.declared.trail.Made.{Made}
 use Rattle.kn_propagate.specs.declared.chains.Spot.{Spot}
-use Rattle.kn_watch.specs.Watches.{listed, lit_at, IsSettled, NoneFalse}
-use Rattle.kn_propagate.specs.Chains.{Watching, at_slot, lit_of_spot, is_in, code, spot_at, with_chain, IsChain, AreChains, AreLinked, IsWalked, IsAtRest, hand_of, IsWired, IsWalking, IsStopped, IsIdle}
+use Rattle.kn_watch.specs.Watches.{listed, lit_at}
+use Rattle.kn_propagate.specs.Chains.{Watching, at_slot, is_in, code, spot_at, with_chain, IsChain, AreChains, AreLinked, IsWalked, hand_of, IsWalking, IsIdle}
 use Rattle.kn_propagate.proofs.Steps.{chain_none}
 
 -- the chains, with one of them in the hand

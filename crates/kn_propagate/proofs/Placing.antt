@@ -1,8 +1,7 @@
 -- A new constraint among the tables: at rest, or to be looked at by the next propagation.
-use Rattle.std.proofs.Common.{◌≡◌, ◌≢◌, ℕ, zero, suc, ◌+◌, ◌-◌, ◌*◌, ◌≤◌, ◌<◌, ◌⊎◌, ◌++◌, Bool, true, false, not, eqb, cond, List, [], ◌∷◌, Option, Some, None, length, take, refl, sym, ap, ◌∙◌, subst, inl, inr, arith}
-use Rattle.std.specs.Prelude.{slice_index_or, nat_lt, ◌||◌}
-use Rattle.std.proofs.lemmas.Bool.{cases_lt, cases_eq, not_from_true, or_left, or_right, or_cases, eq-eqb, eqb-true, le-ltb, cond-false}
-use Rattle.std.proofs.lemmas.List.{get_or_append_left, get_or_push}
+use Rattle.std.proofs.Common.{◌≡◌, ◌≢◌, ℕ, zero, ◌+◌, ◌*◌, ◌≤◌, ◌<◌, ◌⊎◌, ◌++◌, Bool, true, false, not, eqb, cond, List, [], ◌∷◌, Option, Some, None, length, take, refl, sym, ap, ◌∙◌, subst, inl, inr, arith}
+use Rattle.std.specs.Prelude.{slice_get, nat_lt, ◌||◌}
+use Rattle.std.proofs.lemmas.Bool.{cases_lt, not_from_true, or_left, or_right, or_cases, eq-eqb, eqb-true, le-ltb, cond-false}
 use Rattle.std.proofs.lemmas.List.Folds.{list_any-append}
 use Rattle.kn_logic.specs.Literals.{Literal, negated, has}
 use Rattle.kn_logic.specs.Constraints.{Bounded, IsWithin}
@@ -11,10 +10,11 @@ use Rattle.kn_watch.specs.declared.trail.Made.{Made}
 use Rattle.kn_watch.specs.Trails.{Trailed, literals, below, IsTrail}
 use Rattle.kn_watch.specs.declared.watched.Visit.{Visit}
 use Rattle.kn_watch.specs.declared.watched.Visit.TheVariants as turned
-use Rattle.kn_watch.specs.Watches.{listed, unguarded, lit_at, NoneFalse, IsBinding, IsSatisfied, IsSettled, IsConflicting, IsForced, IsForcing, HasWatches, IsBroad, IsLatest, IsStart}
-use Rattle.kn_watch.proofs.Public.{negated_twice, open_append, tight, started, none_false_within, settled_now, rising_top, below_top, IsTop}
-use Rattle.kn_propagate.specs.Chains.{Watching, Chained, at_slot, is_in, nobody, nothing, unwatched, AreKept, IsKept, IsAtRest, IsStill, AreSpare, HasReason}
-use Rattle.kn_propagate.specs.Wholes.{IsAssumed, IsFollowing, IsPending, IsGuarded, IsQuiet, AreFounded, IsTabled, HasNew}
+use Rattle.kn_watch.specs.Watches.{listed, unguarded, NoneFalse, IsBinding, IsSatisfied, IsConflicting, IsForcing, HasWatches, IsLatest, IsStart}
+use Rattle.kn_watch.proofs.Public.{negated_twice, open_append, tight, started, none_false_within, settled_now, rising_top, below_top}
+use Rattle.kn_propagate.specs.Chains.{Watching, Chained, at_slot, is_in, nobody, nothing, vacancy, IsKept, IsAtRest, IsStill, AreSpare}
+use Rattle.kn_propagate.specs.Wholes.{IsPending, IsGuarded, IsQuiet, AreFounded, IsTabled}
+use Rattle.kn_propagate.proofs.Changing.{Changes, each}
 use Rattle.kn_propagate.proofs.Walks.{has_take}
 use Rattle.kn_propagate.proofs.Looking.{quiet_look, open_most}
 
@@ -114,32 +114,22 @@ placed_due t visited pending slot w k latest few has waits i = elim (cases_lt w.
   ]
 ]
 
--- one constraint more
-pub before : (ws : List Watching) (w : Watching) (x : ℕ) → x < length ws → at_slot (ws ++ w ∷ []) x ≡ at_slot ws x
-before ws w x lt = get_or_append_left ws (w ∷ []) (record { id = None; c = nothing; watches = unwatched }) x lt
+-- no literal was forced by what the slot held
+abbrev pub IsUnneeded : List Watching → List Made → ℕ → Type 0
+IsUnneeded ws made slot = (place : ℕ) (m : Made) (id : ℕ) → slice_get made place ≡ Some m → m.reason ≡ Some id → (at_slot ws slot).id ≡ Some id → ⊥
 
-pub last_push : (ws : List Watching) (w : Watching) → at_slot (ws ++ w ∷ []) (length ws) ≡ w
-last_push ws w = get_or_push ws w (record { id = None; c = nothing; watches = unwatched }) (length ws) refl
+pub unneeded_free : (ws : List Watching) (made : List Made) (slot : ℕ) → (at_slot ws slot).id ≡ None → IsUnneeded ws made slot
+unneeded_free ws made slot n place m id e r i = absurd cc
 
-pub long_push : (ws : List Watching) (w : Watching) → length (ws ++ w ∷ []) ≡ length ws + 1
-long_push [] w = refl
-long_push (x ∷ ws) w = omega (arith, long_push ws w)
-
-each : (P : ℕ → Watching → Type 0) (ws : List Watching) (w : Watching) → ((x : ℕ) → x < length ws → P x (at_slot ws x)) → P (length ws) w → (x : ℕ) → x < length (ws ++ w ∷ []) → P x (at_slot (ws ++ w ∷ []) x)
-each P ws w h p x lt = elim (cases_lt x (length ws)) [
-  | inl l ↦ subst (P x) (sym (before ws w x l)) (h x l)
-  | inr ge ↦ (
-      let e : x ≡ length ws = omega (arith, lt, ge, long_push ws w) in
-      subst (λ (z : ℕ). P z (at_slot (ws ++ w ∷ []) z)) (sym e) (subst (P (length ws)) (sym (last_push ws w)) p))
-]
-
-founded_push : (ws : List Watching) (w : Watching) (made : List Made) → AreFounded ws made → AreFounded (ws ++ w ∷ []) made
-founded_push ws w made f place m e = elim (f place m e) [
+founded_changed : (ws new : List Watching) (slot : ℕ) (w : Watching) (made : List Made) → Changes ws new slot w → IsUnneeded ws made slot → AreFounded ws made → AreFounded new made
+founded_changed ws new slot w made c free f place m e = elim (f place m e) [
   | inl a ↦ inl a
   | inr a ↦ (
       let h = a.0 in
-      let s = before ws w h.0 h.2 in
-      inr ((h.0, h.1, omega (arith, h.2, long_push ws w), h.3, ap (λ (x : Watching). x.id) s ∙ h.4, subst (λ (x : Watching). Forces (take place (literals made)) x.c m.lit) (sym s) h.5), a.1))
+      let d : h.0 ≢ slot = λ q. free place m h.1 e h.3 (subst (λ (z : ℕ). (at_slot ws z).id ≡ Some h.1) q h.4) in
+      let lt : h.0 < length new = omega (arith, h.2, c.long) in
+      let s = (c.others h.0 lt d).1 in
+      inr ((h.0, h.1, lt, h.3, ap (λ (x : Watching). x.id) s ∙ h.4, subst (λ (x : Watching). Forces (take place (literals made)) x.c m.lit) (sym s) h.5), a.1))
 ]
 
 pending_more : (t : Trailed) (pending more : List ℕ) (slot : ℕ) (w : Watching) → (is_in slot pending ≡ true → is_in slot more ≡ true) → IsPending t pending slot w → IsPending t more slot w
@@ -154,30 +144,30 @@ guarded_more t pending more slot w h g = elim g [
   ]
 ]
 
-tabled_push : (t : Trailed) (ws : List Watching) (w : Watching) (chains new : Chained) (visited id : ℕ) (pending more : List ℕ) → IsTabled t ws chains visited pending → IsStill (ws ++ w ∷ []) new → AreSpare new → length new.heads ≡ 2 * t.vars + 3 → IsWithin t.vars w.c → HasWatches w.c w.watches → w.id ≡ Some id → length ws < nobody → Waits t w.c
-    → ((slot : ℕ) → is_in slot pending ≡ true → is_in slot more ≡ true) → ((slot : ℕ) → is_in slot more ≡ true → (is_in slot pending ≡ true) ⊎ (slot ≡ length ws)) → Placed t visited more (length ws) w → IsTabled t (ws ++ w ∷ []) new visited more
+tabled_changed : (t : Trailed) (ws new : List Watching) (slot : ℕ) (w : Watching) (chains more : Chained) (visited : ℕ) (pending due : List ℕ) → IsTabled t ws chains visited pending → Changes ws new slot w → IsUnneeded ws t.made slot → IsStill new more → AreSpare more → length more.heads ≡ 2 * t.vars + 3 → length new ≤ nobody → IsKept t.vars w → Waits t w.c
+    → ((x : ℕ) → is_in x pending ≡ true → is_in x due ≡ true) → ((x : ℕ) → is_in x due ≡ true → (is_in x pending ≡ true) ⊎ (x ≡ slot)) → Placed t visited due slot w → IsTabled t new more visited due
 unfolding Waits
-tabled_push t ws w chains new visited id pending more e still spare sized within watches is few waits up down placed = record {
+tabled_changed t ws new slot w chains more visited pending due e c free still spare sized few kept waits up down placed = record {
   small = e.small;
   sized = sized;
   visited_ = e.visited_;
-  few = omega (arith, few, long_push ws w);
-  kept = each (λ x v. IsKept t.vars v) ws w e.kept (record { free = λ n. (let q = sym is ∙ n in absurd cc); within = within; has = watches });
+  few = few;
+  kept = each (λ x v. IsKept t.vars v) ws new slot w c (λ x lt d. e.kept x lt) kept;
   fresh = e.fresh;
-  founded = founded_push ws w t.made e.founded;
+  founded = founded_changed ws new slot w t.made c free e.founded;
   begun = e.begun;
   still = still;
   spare = spare;
-  rest = each (λ x v. IsAtRest t.made (take visited (literals t.made)) v ⊎ IsPending t more x v) ws w (λ x lt. elim (e.rest x lt) [
+  rest = each (λ x v. IsAtRest t.made (take visited (literals t.made)) v ⊎ IsPending t due x v) ws new slot w c (λ x lt d. elim (e.rest x lt) [
     | inl a ↦ inl a
-    | inr p ↦ inr (pending_more t pending more x (at_slot ws x) (up x) p)
+    | inr p ↦ inr (pending_more t pending due x (at_slot ws x) (up x) p)
   ]) placed.0;
-  narrow = each (λ x v. IsGuarded t more x v) ws w (λ x lt. guarded_more t pending more x (at_slot ws x) (up x) (e.narrow x lt)) placed.1;
-  due = λ slot i. elim (down slot i) [
-    | inl j ↦ omega (arith, e.due slot j, long_push ws w)
-    | inr j ↦ omega (arith, j, long_push ws w)
+  narrow = each (λ x v. IsGuarded t due x v) ws new slot w c (λ x lt d. guarded_more t pending due x (at_slot ws x) (up x) (e.narrow x lt)) placed.1;
+  due = λ x i. elim (down x i) [
+    | inl j ↦ omega (arith, e.due x j, c.long)
+    | inr j ↦ omega (arith, j, c.inside)
   ];
-  lower = λ k kl. each (λ x v. IsShort (literals (below (k + 1) t.made)) v.c → ⊥) ws w (e.lower k kl) (waits k kl);
+  lower = λ k kl. each (λ x v. IsShort (literals (below (k + 1) t.made)) v.c → ⊥) ws new slot w c (λ x lt d. e.lower k kl x lt) (waits k kl);
 }
 
 in_push : (xs : List ℕ) (y x : ℕ) → is_in x xs ≡ true → is_in x (xs ++ y ∷ []) ≡ true
@@ -198,23 +188,44 @@ in_either xs y x i = elim (or_cases (is_in x xs) (eqb y x || false) (sym (list_a
 abbrev Start : Trailed → Watching → Visit → Type 0
 Start t w visit = IsStart t.made w.c w.watches visit
 
--- not to be looked at
-pub tabled_rests : (t : Trailed) (ws : List Watching) (w : Watching) (chains new : Chained) (visited id : ℕ) (pending : List ℕ) → IsTabled t ws chains visited pending → IsStill (ws ++ w ∷ []) new → AreSpare new → length new.heads ≡ 2 * t.vars + 3 → IsWithin t.vars w.c → HasWatches w.c w.watches → w.id ≡ Some id → length ws < nobody → ((k : ℕ) → k < t.level → IsShort (literals (below (k + 1) t.made)) w.c → ⊥)
-    → (((place : ℕ) × Start t w (turned.Moved place)) ⊎ Start t w turned.Satisfied) → IsTabled t (ws ++ w ∷ []) new visited pending
-unfolding Waits
-tabled_rests t ws w chains new visited id pending e still spare sized within has is few waits s =
-    tabled_push t ws w chains new visited id pending pending e still spare sized within has is few waits (λ slot i. i) (λ slot i. inl i) (elim s [
-      | inl m ↦ placed_moved t visited pending (length ws) w m.1.1 m.1.2 m.1.3 m.1.4
-      | inr a ↦ placed_satisfied t visited pending (length ws) w e.fresh.trail a.0 a.1 has waits
-    ])
+-- a constraint came into a slot that was free
+module _ (t : Trailed) (ws new : List Watching) (slot : ℕ) (w : Watching) (chains more : Chained) (visited id : ℕ) (pending : List ℕ) (e : IsTabled t ws chains visited pending) (c : Changes ws new slot w) (free : (at_slot ws slot).id ≡ None) (still : IsStill new more) (spare : AreSpare more) (sized : length more.heads ≡ 2 * t.vars + 3) (few : length new ≤ nobody) (within : IsWithin t.vars w.c) (has : HasWatches w.c w.watches) (is : w.id ≡ Some id) (waits : (k : ℕ) → k < t.level → IsShort (literals (below (k + 1) t.made)) w.c → ⊥) where
+  kept : IsKept t.vars w
+  kept = record { free = λ n. (let q = sym is ∙ n in absurd cc); within = within; has = has }
 
--- to be looked at
-pub tabled_waits : (t : Trailed) (ws : List Watching) (w : Watching) (chains new : Chained) (visited id : ℕ) (pending : List ℕ) → IsTabled t ws chains visited pending → IsStill (ws ++ w ∷ []) new → AreSpare new → length new.heads ≡ 2 * t.vars + 3 → IsWithin t.vars w.c → HasWatches w.c w.watches → w.id ≡ Some id → length ws < nobody → ((k : ℕ) → k < t.level → IsShort (literals (below (k + 1) t.made)) w.c → ⊥)
-    → (Start t w turned.Forces ⊎ Start t w turned.Conflict) → IsTabled t (ws ++ w ∷ []) new visited (pending ++ length ws ∷ [])
+  -- not to be looked at
+  pub tabled_rests : (((place : ℕ) × Start t w (turned.Moved place)) ⊎ Start t w turned.Satisfied) → IsTabled t new more visited pending
+  unfolding Waits
+  tabled_rests s =
+      tabled_changed t ws new slot w chains more visited pending pending e c (unneeded_free ws t.made slot free) still spare sized few kept waits (λ x i. i) (λ x i. inl i) (elim s [
+        | inl m ↦ placed_moved t visited pending slot w m.1.1 m.1.2 m.1.3 m.1.4
+        | inr a ↦ placed_satisfied t visited pending slot w e.fresh.trail a.0 a.1 has waits
+      ])
+
+  -- to be looked at
+  pub tabled_waits : (Start t w turned.Forces ⊎ Start t w turned.Conflict) → IsTabled t new more visited (pending ++ slot ∷ [])
+  unfolding Waits
+  tabled_waits s =
+      let i = in_last pending slot in
+      tabled_changed t ws new slot w chains more visited pending (pending ++ slot ∷ []) e c (unneeded_free ws t.made slot free) still spare sized few kept waits (λ x j. in_push pending slot x j) (λ x j. in_either pending slot x j) (elim s [
+        | inl f ↦ placed_due t visited (pending ++ slot ∷ []) slot w e.fresh.trail f.0 (forcing_few (literals t.made) w.c f.1) has waits i
+        | inr k ↦ placed_due t visited (pending ++ slot ∷ []) slot w e.fresh.trail k.0 (conflict_few (literals t.made) w.c k.1) has waits i
+      ])
+
+-- what is at least none of no literals is never short
+vacancy_quiet : (trail : List Literal) → IsShort trail nothing → ⊥
+vacancy_quiet trail (inl lt) = absurd (omega (arith, lt))
+vacancy_quiet trail (inr e) = (let f = e.1 in absurd cc)
+
+kept_vacancy : (vars : ℕ) → IsKept vars vacancy
+kept_vacancy vars = record { free = λ n. refl; within = record { guard = tt; lits = tt }; has = refl }
+
+-- a slot is free that was not, or was not there
+pub tabled_free : (t : Trailed) (ws new : List Watching) (slot : ℕ) (chains more : Chained) (visited : ℕ) (pending : List ℕ) → IsTabled t ws chains visited pending → Changes ws new slot vacancy → IsUnneeded ws t.made slot → IsStill new more → AreSpare more → length more.heads ≡ 2 * t.vars + 3 → length new ≤ nobody → IsTabled t new more visited pending
 unfolding Waits
-tabled_waits t ws w chains new visited id pending e still spare sized within has is few waits s =
-    let i = in_last pending (length ws) in
-    tabled_push t ws w chains new visited id pending (pending ++ length ws ∷ []) e still spare sized within has is few waits (λ slot j. in_push pending (length ws) slot j) (λ slot j. in_either pending (length ws) slot j) (elim s [
-      | inl f ↦ placed_due t visited (pending ++ length ws ∷ []) (length ws) w e.fresh.trail f.0 (forcing_few (literals t.made) w.c f.1) has waits i
-      | inr k ↦ placed_due t visited (pending ++ length ws ∷ []) (length ws) w e.fresh.trail k.0 (conflict_few (literals t.made) w.c k.1) has waits i
-    ])
+tabled_free t ws new slot chains more visited pending e c free still spare sized few =
+    tabled_changed t ws new slot vacancy chains more visited pending pending e c free still spare sized few (kept_vacancy t.vars) (λ k kl. vacancy_quiet (literals (below (k + 1) t.made))) (λ x i. i) (λ x i. inl i)
+    (inl (inr (λ place lt h. absurd (omega (arith, lt)))), inr (inl (inl (omega arith))))
+
+pub quiet_free : (trail : List Literal) (ws new : List Watching) (slot : ℕ) → Changes ws new slot vacancy → IsQuiet trail ws → IsQuiet trail new
+quiet_free trail ws new slot c q = each (λ x v. IsShort trail v.c → ⊥) ws new slot vacancy c (λ x lt d. q x lt) (vacancy_quiet trail)

@@ -1,19 +1,13 @@
 -- One step of the walk along a chain.
-use Rattle.std.proofs.Common.{◌≡◌, ◌≢◌, ℕ, ◌+◌, ◌-◌, ◌*◌, ◌≤◌, ◌<◌, ◌⊎◌, ◌++◌, Bool, true, false, not, ◌||◌, cond, eqb, List, [], ◌∷◌, length, refl, sym, ap, ◌∙◌, subst, inl, inr, arith}
-use Rattle.std.specs.Prelude.{slice_index_or, slice_set}
-use Rattle.std.specs.List.{list_any}
-use Rattle.std.proofs.lemmas.Bool.{or_parts, or_from, or_cases, or_left, or_right, eqb-true, eqb-false, eq-eqb, ne_eqb, cases_eq, cases_Bool, cond-true, cond-false}
+use Rattle.std.proofs.Common.{◌≡◌, ◌≢◌, ℕ, ◌<◌, ◌⊎◌, Bool, true, false, cond, eqb, List, ◌∷◌, length, refl, sym, ap, ◌∙◌, subst, inl, inr, arith}
+use Rattle.std.specs.Prelude.{slice_set}
+use Rattle.std.proofs.lemmas.Bool.{or_cases, or_left, or_right, eqb-true, eq-eqb, ne_eqb, cases_eq, cond-true, cond-false}
 use Rattle.std.proofs.lemmas.List.{get_or-set_other, get_or-set_same}
 use Rattle.std.proofs.Math.ListN.{length-set}
 use Rattle.kn_logic.specs.Constraints.{Bounded}
-use Rattle.kn_logic.specs.Literals.{Literal, negated, has}
-use Rattle.kn_logic.specs.Propagation.{is_open, IsConsistent}
-use Rattle.kn_watch.specs.declared.trail.Made.{Made}
 use Rattle.kn_propagate.specs.declared.chains.Spot.{Spot}
-use Rattle.kn_watch.specs.Trails.{literals, below}
-use Rattle.kn_watch.specs.Watches.{listed, lit_at, NoneFalse, IsSatisfied, IsSettled, IsMoved}
-use Rattle.kn_propagate.specs.Chains.{Watching, at_slot, lit_of_spot, is_in, code, with_chain, spot_at, AreLinked, IsWalked, IsAtRest, Goes}
-use Rattle.kn_watch.proofs.Public.{Within, none_false_within, satisfied_within, open_within}
+use Rattle.kn_watch.specs.Watches.{listed, lit_at}
+use Rattle.kn_propagate.specs.Chains.{Watching, at_slot, lit_of_spot, is_in, code, with_chain, spot_at, AreLinked, Goes}
 
 -- the chains after an entry of the hand was put in front of another chain
 abbrev pub relaid : (ℕ → List ℕ) → ℕ → List ℕ → ℕ → ℕ → ℕ → List ℕ

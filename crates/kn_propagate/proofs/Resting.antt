@@ -1,26 +1,24 @@
 -- What keeps a constraint quiet, while the trail grows at its level and a chain is walked.
-use Rattle.std.proofs.Common.{◌≡◌, ◌≢◌, ℕ, ◌+◌, ◌-◌, ◌*◌, ◌≤◌, ◌<◌, ◌⊎◌, ◌++◌, Bool, true, false, not, ◌||◌, cond, eqb, ltb, List, [], ◌∷◌, length, refl, sym, ap, ◌∙◌, subst, inl, inr, arith}
-use Rattle.std.specs.Prelude.{slice_index_or, slice_set}
-use Rattle.std.specs.List.{AllByRecursion, list_any, filter}
-use Rattle.std.proofs.lemmas.Bool.{or_parts, or_from, or_cases, or_left, or_right, eqb-true, eqb-false, eq-eqb, ne_eqb, cases_eq, cases_lt, cases_Bool, cond-true, cond-false, lt-ltb, le-ltb, not_from_false, not-true}
-use Rattle.std.proofs.lemmas.List.{map-append}
+use Rattle.std.proofs.Common.{◌≡◌, ◌≢◌, ℕ, ◌+◌, ◌*◌, ◌<◌, ◌⊎◌, ◌++◌, Bool, true, false, ◌||◌, cond, eqb, List, [], ◌∷◌, length, refl, sym, ap, ◌∙◌, subst, inl, inr, arith}
+use Rattle.std.specs.Prelude.{slice_set}
+use Rattle.std.proofs.lemmas.Bool.{or_cases, eqb-true, cases_eq, cases_Bool, not_from_false, not-true}
 use Rattle.std.proofs.lemmas.List.Folds.{list_any-append}
 use Rattle.kn_logic.specs.Constraints.{Bounded}
 use Rattle.kn_logic.specs.Literals.{Literal, negated, is_same, has}
 use Rattle.kn_logic.specs.Propagation.{is_open, IsConsistent, IsShort}
 use Rattle.kn_watch.specs.declared.trail.Made.{Made}
 use Rattle.kn_propagate.specs.declared.chains.Spot.{Spot}
-use Rattle.kn_watch.specs.Trails.{Trailed, literals, below, IsRising, IsTrail}
+use Rattle.kn_watch.specs.Trails.{Trailed, literals, below, IsTrail}
 use Rattle.kn_watch.specs.Watches.{listed, lit_at, NoneFalse, IsSatisfied, IsSettled, HasWatches, IsBroad}
 use Rattle.kn_watch.specs.Trails.{Grows}
 use Rattle.kn_propagate.specs.Chains.{Watching, at_slot, lit_of_spot, is_in, code, spot_at, IsWalked, IsAtRest, Goes, IsGrown}
 use Rattle.kn_watch.proofs.Public.{settled_back, settled_quiet}
 use Rattle.kn_watch.proofs.Public.{IsTop, below_grown, settled_now, settled_grows, append_none, negated_twice}
 use Rattle.kn_watch.specs.Quiet.{quiet_law}
-use Rattle.kn_watch.proofs.Public.{Within, within-same, none_false_within, satisfied_within, open_within}
+use Rattle.kn_watch.proofs.Public.{Within, none_false_within, open_within}
 use Rattle.kn_logic.proofs.Public.{same_literal}
-use Rattle.kn_watch.proofs.Public.{below_within, below_all}
-use Rattle.kn_propagate.proofs.Relinking.{a_spot, spot_other, not_in}
+use Rattle.kn_watch.proofs.Public.{below_all}
+use Rattle.kn_propagate.proofs.Relinking.{a_spot, spot_other}
 
 -- The visited constraint is satisfied: it is settled.
 pub walked_satisfied : (level : ℕ) (made new : List Made) (seen : List Literal) (spots : List Spot) (rest : List ℕ) (from : ℕ) (ws : List Watching) (slot : ℕ) → Grows level made new → IsTop level new → Within (literals (below level made)) seen → IsSatisfied (literals new) (at_slot ws slot).c → IsWalked made seen spots rest from ws slot → IsSettled new (at_slot ws slot).c (at_slot ws slot).watches

@@ -1,16 +1,14 @@
 -- The walk along a chain, step by step, over the tables.
-use Rattle.std.proofs.Common.{◌≡◌, ◌≢◌, ℕ, zero, suc, ◌+◌, ◌-◌, ◌*◌, ◌≤◌, ◌<◌, ◌⊎◌, ◌++◌, Bool, true, false, not, ◌||◌, cond, eqb, List, [], ◌∷◌, Option, Some, None, length, refl, sym, ap, ◌∙◌, subst, inl, inr, arith}
+use Rattle.std.proofs.Common.{◌≡◌, ◌≢◌, ℕ, zero, suc, ◌+◌, ◌-◌, ◌≤◌, ◌<◌, ◌++◌, Bool, true, false, not, cond, eqb, List, [], ◌∷◌, Some, length, refl, sym, ap, ◌∙◌, subst, inl, inr, arith}
 use Rattle.std.specs.Prelude.{slice_index_or, slice_set}
 use Rattle.std.proofs.lemmas.Bool.{or_left, or_right, and_from, not_from_true, eq-eqb, ne_eqb, cases_eq, cond-true, cond-false}
-use Rattle.std.proofs.lemmas.List.{get_or_read}
 use Rattle.std.proofs.Math.ListN.{length-set}
-use Rattle.kn_logic.specs.Constraints.{Bounded}
 use Rattle.kn_logic.specs.Literals.{Literal, negated, has, is_same}
 use Rattle.kn_logic.specs.Propagation.{is_open}
 use Rattle.kn_watch.specs.declared.trail.Made.{Made}
 use Rattle.kn_propagate.specs.declared.chains.Spot.{Spot}
 use Rattle.kn_watch.specs.Trails.{literals, below, lit_of}
-use Rattle.kn_watch.specs.Watches.{listed, lit_at, NoneFalse, IsSatisfied, IsSettled}
+use Rattle.kn_watch.specs.Watches.{listed, IsSatisfied}
 use Rattle.kn_watch.specs.Trails.{Grows}
 use Rattle.kn_propagate.specs.Chains.{Watching, at_slot, lit_of_spot, is_in, code, spot_at, with_chain, with_home, IsChain, AreChains, AreLinked, IsWalked, IsAtRest, Goes, IsDrawn, hand_of, IsWired, IsWalking, IsStopped, count_from}
 use Rattle.kn_watch.proofs.Public.{Within}

@@ -1,32 +1,28 @@
 -- One element of a list of watched constraints is replaced: what the list is seen as then.
-use Rattle.std.proofs.Common.{◌≡◌, ◌≢◌, ℕ, ◌+◌, ◌≤◌, ◌<◌, ◌++◌, Bool, true, false, Option, None, List, [], ◌∷◌, length, map, refl, sym, ap, ◌∙◌, subst, inl, inr, arith}
+use Rattle.std.proofs.Common.{◌≡◌, ◌≢◌, ℕ, ◌<◌, ◌++◌, Bool, true, Option, List, [], ◌∷◌, length, refl, sym, ap, ◌∙◌, subst, inl, inr, arith}
 use Rattle.std.specs.Prelude.{slice_index_or, slice_set}
 use Rattle.std.proofs.lemmas.List.{get_or-map, get_or-set_same, get_or-set_other, map-set, map-append}
 use Rattle.std.proofs.lemmas.Bool.{cases_eq}
 use Rattle.std.proofs.Math.ListN.{length-set}
 use Rattle.std.proofs.Math.Seq.{map-set_same}
-use Rattle.kn_logic.specs.Constraints.{Bounded, klause, IsWithin}
+use Rattle.kn_logic.specs.Constraints.{Bounded, IsWithin}
 use Rattle.kn_logic.specs.Literals.{Literal}
 use Rattle.kn_logic.specs.Propagation.{is_open}
-use Rattle.kn_propagate.specs.declared.chains.Spot.{Spot}
 use Rattle.kn_propagate.specs.declared.slot.Slot.{Slot}
 use Rattle.kn_watch.specs.declared.watched.Visit.{Visit}
 use Rattle.kn_watch.specs.declared.watched.Visit.TheVariants as turned
-use Rattle.kn_watch.specs.Watches.{listed, lit_at, IsTurn, IsMoved, IsSatisfied, IsForcing, IsConflicting, HasWatches}
-use Rattle.kn_propagate.specs.Chains.{Watching, seen_as, at_slot, lit_of_spot, IsTurned, IsKept, Goes, nothing, unwatched}
+use Rattle.kn_watch.specs.Watches.{listed, lit_at, IsTurn, IsSatisfied, IsForcing, IsConflicting, HasWatches}
+use Rattle.kn_propagate.specs.Chains.{Watching, seen_as, at_slot, IsTurned, IsKept, vacancy}
 
 abbrev a_watching : Option ℕ → Bounded → (ℕ → Bool) → Watching
 a_watching id c w = record { id = id; c = c; watches = w }
-
-abbrev nobody : Watching
-nobody = record { id = None; c = nothing; watches = unwatched }
 
 module _ {W : Type 0} (bounded : W → Bounded) (watches : W → ℕ → Bool) where
   abbrev seen : Slot W → Watching
   seen s = a_watching s.id (bounded s.watch) (watches s.watch)
 
   pub seen_here : (xs : List (Slot W)) (i : ℕ) (x : Slot W) → i < length xs → x ≡ slice_index_or xs i x → at_slot (seen_as bounded watches xs) i ≡ a_watching x.id (bounded x.watch) (watches x.watch)
-  seen_here xs i x lt is = get_or-map seen xs i x nobody lt ∙ ap seen (sym is)
+  seen_here xs i x lt is = get_or-map seen xs i x vacancy lt ∙ ap seen (sym is)
 
   pub length-seen : (xs : List (Slot W)) → length (seen_as bounded watches xs) ≡ length xs
   length-seen [] = refl
@@ -36,17 +32,14 @@ module _ {W : Type 0} (bounded : W → Bounded) (watches : W → ℕ → Bool) w
   pub slot_is : (xs : List (Slot W)) (i : ℕ) (x : Slot W) (ws : List Watching) → i < length ws → seen_as bounded watches xs ≡ ws → x ≡ slice_index_or xs i x → at_slot ws i ≡ a_watching x.id (bounded x.watch) (watches x.watch)
   slot_is xs i x ws lt e is = ap (λ (z : List Watching). at_slot z i) (sym e) ∙ seen_here xs i x (omega (arith, lt, length-seen xs, ap (λ (z : List Watching). length z) e)) is
 
-  pub seen_push : (xs : List (Slot W)) (y : Slot W) (ys : List (Slot W)) → ys ≡ xs ++ y ∷ [] → seen_as bounded watches ys ≡ seen_as bounded watches xs ++ a_watching y.id (bounded y.watch) (watches y.watch) ∷ []
-  seen_push xs y ys is = ap (seen_as bounded watches) is ∙ map-append seen xs (y ∷ [])
-
   pub seen_set : (xs : List (Slot W)) (i : ℕ) (y : Slot W) → seen_as bounded watches (slice_set xs i y) ≡ slice_set (seen_as bounded watches xs) i (seen y)
   seen_set xs i y = map-set seen xs i y
 
-  set_here : (xs : List (Slot W)) (i : ℕ) (y : Slot W) → i < length xs → at_slot (seen_as bounded watches (slice_set xs i y)) i ≡ seen y
-  set_here xs i y lt = ap (λ (ws : List Watching). at_slot ws i) (seen_set xs i y) ∙ get_or-set_same (seen_as bounded watches xs) i (seen y) nobody (omega (arith, lt, length-seen xs))
+  pub set_here : (xs : List (Slot W)) (i : ℕ) (y : Slot W) → i < length xs → at_slot (seen_as bounded watches (slice_set xs i y)) i ≡ seen y
+  set_here xs i y lt = ap (λ (ws : List Watching). at_slot ws i) (seen_set xs i y) ∙ get_or-set_same (seen_as bounded watches xs) i (seen y) vacancy (omega (arith, lt, length-seen xs))
 
-  set_there : (xs : List (Slot W)) (i j : ℕ) (y : Slot W) → j ≢ i → at_slot (seen_as bounded watches (slice_set xs i y)) j ≡ at_slot (seen_as bounded watches xs) j
-  set_there xs i j y d = ap (λ (ws : List Watching). at_slot ws j) (seen_set xs i y) ∙ get_or-set_other (seen_as bounded watches xs) i j (seen y) nobody d
+  pub set_there : (xs : List (Slot W)) (i j : ℕ) (y : Slot W) → j ≢ i → at_slot (seen_as bounded watches (slice_set xs i y)) j ≡ at_slot (seen_as bounded watches xs) j
+  set_there xs i j y d = ap (λ (ws : List Watching). at_slot ws j) (seen_set xs i y) ∙ get_or-set_other (seen_as bounded watches xs) i j (seen y) vacancy d
 
   -- the slot with another watch
   abbrev after : Slot W → W → Slot W

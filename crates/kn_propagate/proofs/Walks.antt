@@ -1,19 +1,18 @@
 -- The steps of the walk, as its loop makes them.
-use Rattle.std.proofs.Common.{◌≡◌, ◌≢◌, ℕ, zero, suc, ◌+◌, ◌-◌, ◌*◌, ◌≤◌, ◌<◌, ◌⊎◌, ◌++◌, Bool, true, false, cond, eqb, List, [], ◌∷◌, Option, Some, None, length, take, refl, sym, add-one, ap, ◌∙◌, subst, inl, inr, arith}
+use Rattle.std.proofs.Common.{◌≡◌, ◌≢◌, ℕ, zero, suc, ◌+◌, ◌-◌, ◌*◌, ◌≤◌, ◌<◌, ◌++◌, Bool, true, false, cond, List, [], ◌∷◌, Option, Some, None, length, take, refl, sym, add-one, ap, ◌∙◌, subst, inl, inr, arith}
 use Rattle.std.specs.Prelude.{slice_index_or, slice_set, IfSome}
 use Rattle.std.specs.List.{AllByRecursion}
 use Rattle.std.proofs.lemmas.Bool.{or_cases, or_left, or_right}
 use Rattle.std.proofs.lemmas.List.{map-append, take-append-le, take_more}
 use Rattle.std.proofs.Math.ListN.{length-set}
 use Rattle.kn_logic.specs.Constraints.{Bounded, IsWithin}
-use Rattle.kn_logic.specs.Literals.{Literal, negated, is_same, has, IsKnown, AreKnown}
+use Rattle.kn_logic.specs.Literals.{Literal, is_same, has, IsKnown, AreKnown}
 use Rattle.kn_logic.specs.Propagation.{is_open}
 use Rattle.kn_watch.specs.declared.trail.Made.{Made}
 use Rattle.kn_propagate.specs.declared.chains.Spot.{Spot}
 use Rattle.kn_watch.specs.Trails.{Trailed, literals, below, lit_of, IsRising, IsTrail}
-use Rattle.kn_watch.specs.Watches.{listed, unguarded, lit_at, NoneFalse, IsSatisfied, IsSettled}
-use Rattle.kn_watch.specs.Trails.{Grows}
-use Rattle.kn_propagate.specs.Chains.{Watching, at_slot, lit_of_spot, code, spot_at, Goes, IsDrawn, hand_of, IsWired, IsWalking, IsStopped, IsGrown, IsFresh, AreSame, IsIdle, with_home, count_from}
+use Rattle.kn_watch.specs.Watches.{listed, unguarded, lit_at, IsSatisfied}
+use Rattle.kn_propagate.specs.Chains.{Watching, at_slot, lit_of_spot, code, Goes, IsDrawn, hand_of, IsWired, IsWalking, IsStopped, IsGrown, IsFresh, AreSame, IsIdle, with_home, count_from}
 use Rattle.kn_watch.proofs.Public.{Within}
 use Rattle.kn_propagate.proofs.Relinking.{a_spot, relaid}
 use Rattle.kn_watch.proofs.Public.{IsTop, rising_top, below_grown, all_within_grown}
@@ -203,11 +202,6 @@ restore_step made seen ws spots nexts heads nexts1 heads1 nexts2 heads2 from e s
     let n2 : nexts2 ≡ slice_set nexts e (slice_index_or heads1 from 0) = b ∙ ap (λ (xs : List ℕ). slice_set xs e (slice_index_or heads1 from 0)) a in
     subst (λ (x : List ℕ). IsStopped made seen ws spots x heads2 from) (sym n2)
     (subst (λ (x : List ℕ). IsStopped made seen ws spots (slice_set nexts e (slice_index_or heads1 from 0)) x from) (sym c) done)
-
-pub idle_now : (made : List Made) (seen : List Literal) (ws : List Watching) (spots : List Spot) (nexts heads nexts1 heads1 : List ℕ) (from : ℕ) → (stopped : IsStopped made seen ws spots nexts heads from) → IsDrawn nexts heads heads1 (hand_of heads) None → nexts1 ≡ nexts → IsIdle made seen ws spots nexts1 heads1
-idle_now made seen ws spots nexts heads nexts1 heads1 from s d a =
-    let done : IsIdle made seen ws spots nexts heads = record { from = from; stopped = s; empty = d.0 } in
-    subst (λ (x : List ℕ). IsIdle made seen ws spots x heads1) (sym a) (subst (λ (x : List ℕ). IsIdle made seen ws spots nexts x) (sym d.1) done)
 
 length_append : (a b : List Made) → length a ≤ length (a ++ b)
 length_append [] b = omega arith

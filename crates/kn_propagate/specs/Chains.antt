@@ -1,12 +1,13 @@
 -- The engine's own definitions: constraints as they are watched, the chains of their entries, and what keeps
 -- each constraint quiet while literals are visited.
 use Rattle.std.specs.Prelude.{ℕ, zero, suc, ◌≡◌, ◌≢◌, ◌≤◌, ◌<◌, ◌+◌, ◌*◌, ◌-◌, ◌⊎◌, ◌++◌, ◌∷◌, ◌==◌, ◌&&◌, nat_lt, Bool, true, false, if◌then◌else◌, List, [], length, map, take, slice_get, slice_index_or, slice_set, Option, Some, None}
-use Rattle.std.specs.List.{list_any, AllByRecursion}
-use Rattle.kn_logic.specs.Literals.{Literal, negated, has}
+use Rattle.std.specs.List.{list_any}
+use Rattle.kn_logic.specs.Literals.{Literal, has}
 use Rattle.kn_logic.specs.Constraints.{Bounded, IsWithin, klause}
 use Rattle.kn_logic.specs.Propagation.{is_open, open_places, Forces}
 use Rattle.kn_watch.specs.declared.trail.Made.{Made}
 use Rattle.kn_propagate.specs.declared.chains.Spot.{Spot}
+use Rattle.kn_propagate.specs.declared.chains.Found.{Found}
 use Rattle.kn_propagate.specs.declared.slot.Slot.{Slot}
 use Rattle.kn_propagate.specs.declared.slot.Held.{Held}
 use Rattle.kn_propagate.specs.declared.slot.Held.TheVariants.{Clause, Klause, Free}
@@ -15,7 +16,7 @@ use Rattle.kn_watch.specs.declared.watched.Visit.TheVariants as turned
 use Rattle.kn_propagate.specs.declared.visiting.Effect.{Effect}
 use Rattle.kn_propagate.specs.declared.visiting.Effect.TheVariants.{Stays, Moved, Conflict}
 use Rattle.kn_watch.specs.Trails.{Trailed, literals, below, IsTrail, Grows}
-use Rattle.kn_watch.specs.Watches.{listed, lit_at, NoneFalse, IsSettled, IsSatisfied, IsConflicting, IsForced, IsForcing, HasWatches, IsBroad, QuietLaw, IsMoved}
+use Rattle.kn_watch.specs.Watches.{listed, lit_at, NoneFalse, IsSettled, IsSatisfied, IsConflicting, IsForcing, HasWatches}
 
 -- a constraint as it is watched, with its id; none in a slot that is free
 pub record Watching : Type 0 where
@@ -45,8 +46,12 @@ held_watches clauses klauses (Clause c) = clauses c
 held_watches clauses klauses (Klause k) = klauses k
 held_watches clauses klauses (Free next) = unwatched
 
+-- what a free slot is seen as
+abbrev pub vacancy : Watching
+vacancy = record { id = None; c = nothing; watches = unwatched }
+
 abbrev pub at_slot : List Watching → ℕ → Watching
-at_slot ws slot = slice_index_or ws slot (record { id = None; c = nothing; watches = unwatched })
+at_slot ws slot = slice_index_or ws slot vacancy
 
 -- the literal at a place of a slot
 abbrev pub lit_of_spot : List Watching → Spot → Literal
@@ -268,3 +273,40 @@ cut_of w k = record { id = w.id; c = w.c; watches = λ place. w.watches place &&
 
 abbrev pub cut : List Watching → ℕ → ℕ → List Watching
 cut ws slot k = slice_set ws slot (cut_of (at_slot ws slot) k)
+
+-- the entry of this spot stands in the chain
+abbrev pub StandsIn : Chained → ℕ → Spot → Type 0
+StandsIn chains k spot =
+    (chain : List ℕ) × (e : ℕ) × IsChain chains.nexts (slice_index_or chains.heads k 0) chain × (is_in e chain ≡ true) × (spot_at chains.spots e ≡ spot)
+
+-- the last of a list
+abbrev pub EndsWith : List ℕ → Option ℕ → Type 0
+EndsWith front None = front ≡ []
+EndsWith front (Some e) = (rest : List ℕ) × (front ≡ rest ++ e ∷ [])
+
+-- An entry of this spot, with what stands before and behind it in the chain.
+pub record IsFound (chains : Chained) (k : ℕ) (spot : Spot) (found : Found) : Type 0 where
+  pub front : List ℕ
+  pub back : List ℕ
+  pub chain : IsChain chains.nexts (slice_index_or chains.heads k 0) (front ++ found.entry ∷ back)
+  pub last : EndsWith front found.before
+  pub here : spot_at chains.spots found.entry ≡ spot
+
+-- the tables with an entry left out of its chain, where it is the first, or stands behind another
+abbrev pub heads_without : Chained → ℕ → Option ℕ → ℕ → List ℕ
+heads_without chains k None e = slice_set chains.heads k (slice_index_or chains.nexts e 0)
+heads_without chains k (Some before) e = chains.heads
+
+abbrev pub nexts_without : Chained → Option ℕ → ℕ → List ℕ
+nexts_without chains None e = chains.nexts
+nexts_without chains (Some before) e = slice_set chains.nexts before (slice_index_or chains.nexts e 0)
+
+-- The entry of the spot was taken out of the chain, and stands in front of those that are not used.
+pub record IsReleased (old new : Chained) (k : ℕ) (spot : Spot) : Type 0 where
+  pub found : Found
+  pub is : IsFound old k spot found
+  pub nexts : new.nexts ≡ slice_set (nexts_without old found.before found.entry) found.entry old.spare
+  pub heads : new.heads ≡ heads_without old k found.before found.entry
+  pub spots : new.spots ≡ slice_set old.spots found.entry (record { owner = nobody; place = 0 })
+  pub spare : new.spare ≡ found.entry + 1
+  pub room : new.room ≡ old.room

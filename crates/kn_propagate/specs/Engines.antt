@@ -1,5 +1,5 @@
 -- An engine as its callers see it, and what its type keeps.
-use Rattle.std.specs.Prelude.{ℕ, ◌≡◌, ◌≤◌, ◌<◌, ◌+◌, ◌-◌, ◌==◌, if◌then◌else◌, List, [], ◌∷◌, ◌++◌, length, map, take, slice_get, Option, Some, None}
+use Rattle.std.specs.Prelude.{ℕ, ◌≡◌, ◌≤◌, ◌<◌, ◌+◌, ◌-◌, ◌==◌, not, if◌then◌else◌, List, [], ◌∷◌, ◌++◌, length, map, filter, take, slice_get, Option, Some, None}
 use Rattle.std.specs.List.{AllByRecursion}
 use Rattle.kn_logic.specs.Literals.{AreKnown, AreDifferent}
 use Rattle.kn_logic.specs.Constraints.{Bounded, IsWithin}
@@ -32,6 +32,10 @@ live_in (l ∷ live) id = if l.id == id then Some l.constraint else live_in live
 abbrev pub IsAdded : List Live → ℕ → Bounded → List Live → Type 0
 IsAdded live id c new = (front : List Live) × (back : List Live) × (live ≡ front ++ back) × (new ≡ front ++ record { id = id; constraint = c } ∷ back)
 
+-- the live constraints without that of an id
+abbrev pub removed : ℕ → List Live → List Live
+removed id live = filter (λ l. not (l.id == id)) live
+
 -- no id stands there twice
 abbrev pub AreApart : List Live → Type 0
 AreApart [] = Unit {0}
@@ -47,6 +51,10 @@ IsForcedAt live made place = (m : Made) (id : ℕ) → slice_get made place ≡ 
 abbrev pub HasReasonAt : List Live → List Made → ℕ → Type 0
 HasReasonAt live made place = (m : Made) → slice_get made place ≡ Some m
     → (id : ℕ) × (c : Bounded) × (m.reason ≡ Some id) × (live_in live id ≡ Some c) × Forces (take place (literals made)) c m.lit
+
+-- no literal of the trail was forced by the constraint of this id
+abbrev pub IsNoReason : List Made → ℕ → Type 0
+IsNoReason made id = (p : ℕ) (m : Made) → slice_get made p ≡ Some m → m.reason ≡ Some id → ⊥
 
 -- The constraint of this id is live, and fewer of its literals than its bound are not false, and it has no
 -- guard or a true one: run as a hint on the trail it ends in conflict.

@@ -1,5 +1,5 @@
 -- What an engine keeps of its tables, slot by slot.
-use Rattle.std.specs.Prelude.{ℕ, ◌≡◌, ◌≤◌, ◌<◌, ◌+◌, ◌*◌, ◌^◌, ◌++◌, ◌⊎◌, true, List, [], ◌∷◌, length, take, slice_get, Option, Some, None}
+use Rattle.std.specs.Prelude.{ℕ, ◌≡◌, ◌≤◌, ◌<◌, ◌+◌, ◌*◌, ◌^◌, ◌++◌, ◌⊎◌, true, List, [], ◌∷◌, length, take, slice_get, slice_set, Option, Some, None}
 use Rattle.kn_logic.specs.Constraints.{Bounded}
 use Rattle.kn_logic.specs.Literals.{Literal}
 use Rattle.kn_logic.specs.Propagation.{IsShort, open_places}
@@ -8,7 +8,7 @@ use Rattle.kn_propagate.specs.declared.step.Step.{Step}
 use Rattle.kn_propagate.specs.declared.step.Step.TheVariants.{Closed, Conflict}
 use Rattle.kn_watch.specs.Trails.{Trailed, literals, below}
 use Rattle.kn_watch.specs.Watches.{listed, NoneFalse, IsSatisfied, IsConflicting, IsBroad}
-use Rattle.kn_propagate.specs.Chains.{Watching, Chained, at_slot, is_in, nobody, AreKept, IsAtRest, IsFresh, IsStill, AreSpare, HasReason}
+use Rattle.kn_propagate.specs.Chains.{Watching, Chained, vacancy, at_slot, is_in, nobody, AreKept, IsAtRest, IsFresh, IsStill, AreSpare, HasReason}
 use Rattle.kn_propagate.specs.Engines.{Live}
 
 abbrev pub with_live : Option ℕ → Bounded → List Live → List Live
@@ -61,7 +61,7 @@ IsGuarded t pending slot w = IsBroad w.c ⊎ (IsSatisfied (literals (below 1 t.m
 
 -- what the tables keep, slot by slot
 pub record IsTabled (t : Trailed) (ws : List Watching) (chains : Chained) (visited : ℕ) (pending : List ℕ) : Type 0 where
-  pub small : t.vars < 2 ^ 32
+  pub small : 2 * t.vars + 3 < 2 ^ 64
   pub sized : length chains.heads ≡ 2 * t.vars + 3
   pub visited_ : visited ≤ length t.made
   pub few : length ws ≤ nobody
@@ -82,6 +82,13 @@ pub record IsWhole (t : Trailed) (ws : List Watching) (chains : Chained) (visite
   pub index : IsIndex ws find
   pub says : Says t ws visited last
 
--- one constraint more, in a slot behind all others
-abbrev pub HasNew : List Watching → List Watching → ℕ → Bounded → Type 0
-HasNew ws new id c = (w : Watching) × (new ≡ ws ++ w ∷ []) × (w.id ≡ Some id) × (w.c ≡ c)
+-- one constraint more, in a slot that was free
+abbrev pub IsFilled : List Watching → List Watching → ℕ → ℕ → Bounded → Type 0
+IsFilled ws new slot id c = (w : Watching) × (new ≡ slice_set ws slot w) × (w.id ≡ Some id) × (w.c ≡ c)
+
+-- The slot is free; it may be a new one behind all others.
+pub record IsVacant (ws new : List Watching) (slot : ℕ) : Type 0 where
+  pub grown : (new ≡ ws) ⊎ (new ≡ ws ++ vacancy ∷ [])
+  pub inside : slot < length new
+  pub few : length new ≤ nobody
+  pub free : (at_slot new slot).id ≡ None

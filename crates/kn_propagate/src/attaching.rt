@@ -12,7 +12,7 @@ use kn_watch::Watched;
 pub fn attach<W: Watched>(slots: &Vec<Slot<W>>, chains: &mut Chains, owner: usize, vars: u64)
     requires owner { owner < length (seen_as W.bounded W.watches slots.now.items) }
     requires few { length (seen_as W.bounded W.watches slots.now.items) ≤ nobody }
-    requires small { vars < 2 ^ 32 }
+    requires small { 2 * vars + 3 < 2 ^ 64 }
     requires sized { length chains.old.heads ≡ 2 * vars + 3 }
     requires within { AreWithin vars (seen_as W.bounded W.watches slots.now.items) }
     requires still { IsStill (cut (seen_as W.bounded W.watches slots.now.items) owner 0) chains.old }
@@ -39,7 +39,7 @@ fn attach_at<W: Watched>(
     requires owner { owner < length (seen_as W.bounded W.watches slots.now.items) }
     requires place { place < length (listed (at_slot (seen_as W.bounded W.watches slots.now.items) owner).c) }
     requires few { length (seen_as W.bounded W.watches slots.now.items) ≤ nobody }
-    requires small { vars < 2 ^ 32 }
+    requires small { 2 * vars + 3 < 2 ^ 64 }
     requires sized { length chains.old.heads ≡ 2 * vars + 3 }
     requires within { AreWithin vars (seen_as W.bounded W.watches slots.now.items) }
     requires still { IsStill (cut (seen_as W.bounded W.watches slots.now.items) owner place) chains.old }

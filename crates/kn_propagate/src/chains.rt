@@ -1,10 +1,10 @@
 //! The entries of watched places, one for each, chained by the literal that stands there.
-ghost use Rattle.std.specs.Prelude.{◌≡◌, ◌≤◌, ◌<◌, ◌+◌, ◌-◌, ◌*◌, ◌^◌, [], IfOk, OnOk, length, replicate, slice_index_or, slice_set};
-ghost use Rattle.kn_propagate.specs.Chains.{code, spot_at, IsDrawn, AreSpare, IsUnused, hand_of};
+ghost use Rattle.std.specs.Prelude.{◌≡◌, ◌≢◌, ◌≤◌, ◌<◌, ◌+◌, ◌-◌, ◌*◌, ◌^◌, [], false, IfOk, IfSome, IsTrue, OnOk, length, replicate, slice_index_or, slice_set};
+ghost use Rattle.kn_propagate.specs.Chains.{code, spot_at, nobody, IsDrawn, AreSpare, IsUnused, hand_of, StandsIn, IsFound, heads_without, nexts_without, IsReleased};
 
 use crate::NoMemory;
 use kn_logic::Lit;
-use std::alloc::Global;
+use std::alloc::{AllocError, Global};
 use std::marker::Model;
 
 /// A place of the constraint in a slot.
@@ -19,6 +19,13 @@ pub struct Spot {
 pub struct Entry {
     pub spot: Spot,
     pub next: usize,
+}
+
+/// An entry of a chain, and the one before it, if it is not the first.
+#[derive(Clone, Copy, Debug)]
+pub struct Found {
+    pub before: Option<usize>,
+    pub entry: usize,
 }
 
 /// Chains of entries: from the head of a chain on, each entry names the next. The chain of the last number is
@@ -41,12 +48,14 @@ impl Model for Chains {
 }
 
 impl Chains {
-    /// No entry, and for each literal over so many variables an empty chain.
+    /// No entry, and for each literal over so many variables an empty chain. An error where memory is wanting.
     pub fn new(alloc: Global, vars: u64) -> Result<Chains, NoMemory>
-        requires { vars < 2 ^ 32 }
-        ensures { IfOk result (λ c. c ≡ record { spots = []; nexts = []; heads = replicate (2 * vars + 3) 0; spare = 0; room = 0 }) }
+        ensures small { IfOk result (λ c. 2 * vars + 3 < 2 ^ 64) }
+        ensures value { IfOk result (λ c. c ≡ record { spots = []; nexts = []; heads = replicate (2 * vars + 3) 0; spare = 0; room = 0 }) }
     {
-        let count = 2 * vars as usize + 3;
+        let Some(count) = count_of(vars) else {
+            return Err(AllocError);
+        };
         Ok(Chains {
             entries: Vec::new(alloc),
             heads: vec![in alloc; 0; count]?,
@@ -130,6 +139,75 @@ impl Chains {
         entry
     }
 
+    /// Takes the entry of a spot, which stands there, out of a chain: it is not used then.
+    pub fn release(&mut self, chain: usize, spot: Spot)
+        requires chain { chain < length self.old.heads }
+        requires even { length self.old.nexts ≡ length self.old.spots }
+        requires stands { StandsIn self.old chain spot }
+        ensures { IsReleased self.old self.new chain spot }
+    {
+        let found = self.find(chain, spot);
+        self.unlink(chain, &found);
+        self.retire(found.entry);
+    }
+
+    // the entry of a spot in a chain in which it stands
+    fn find(&self, chain: usize, spot: Spot) -> Found
+        requires chain { chain < length self.now.heads }
+        requires even { length self.now.nexts ≡ length self.now.spots }
+        requires stands { StandsIn self.now chain spot }
+        ensures { IsFound self.now chain spot result }
+    {
+        let mut before = None;
+        let mut link = self.heads[chain];
+        while link != 0 {
+            let entry = link - 1;
+            let at = self.entries[entry];
+            if is_same(at.spot, spot) {
+                return Found { before, entry };
+            }
+            before = Some(entry);
+            link = at.next;
+        }
+        unreachable!()
+    }
+
+    // leaves an entry out of its chain
+    fn unlink(&mut self, chain: usize, found: &Found)
+        requires chain { chain < length self.old.heads }
+        requires entry { found.now.entry < length self.old.nexts }
+        requires before { IfSome found.now.before (λ e. e < length self.old.nexts) }
+        ensures nexts { self.new.nexts ≡ nexts_without self.old found.now.before found.now.entry }
+        ensures heads { self.new.heads ≡ heads_without self.old chain found.now.before found.now.entry }
+        ensures spots { self.new.spots ≡ self.old.spots }
+        ensures spare { self.new.spare ≡ self.old.spare }
+        ensures room { self.new.room ≡ self.old.room }
+    {
+        let next = self.entries[found.entry].next;
+        match found.before {
+            Some(before) => self.entries[before].next = next,
+            None => self.heads[chain] = next,
+        }
+    }
+
+    // puts an entry, which no slot owns then, in front of those that are not used
+    fn retire(&mut self, entry: usize)
+        requires { entry < length self.old.nexts }
+        ensures nexts { self.new.nexts ≡ slice_set self.old.nexts entry self.old.spare }
+        ensures heads { self.new.heads ≡ self.old.heads }
+        ensures spots { self.new.spots ≡ slice_set self.old.spots entry (record { owner = nobody; place = 0 }) }
+        ensures spare { self.new.spare ≡ entry + 1 }
+        ensures room { self.new.room ≡ self.old.room }
+    {
+        let spot = Spot {
+            owner: usize::MAX,
+            place: 0,
+        };
+        let next = self.spare;
+        self.entries[entry] = Entry { spot, next };
+        self.spare = entry + 1;
+    }
+
     /// Takes the first entry out of the hand; `None` where the hand is empty.
     pub fn draw(&mut self) -> Option<usize>
         requires some { 0 < length self.old.heads }
@@ -161,6 +239,21 @@ impl Chains {
         self.heads[hand] = self.heads[from];
         self.heads[from] = 0;
     }
+}
+
+// how many chains there are over so many variables: two of each, two that stay empty, and the hand
+fn count_of(vars: u64) -> Option<usize>
+    ensures { IfSome result (λ count. (count ≡ 2 * vars + 3) × (count < 2 ^ 64)) }
+{
+    (vars as usize).checked_mul(2)?.checked_add(3)
+}
+
+// whether two spots are one
+fn is_same(a: Spot, b: Spot) -> bool
+    ensures same { IsTrue result → a ≡ b }
+    ensures other { result ≡ false → a ≢ b }
+{
+    a.owner == b.owner && a.place == b.place
 }
 
 /// The number of a literal's chain.

@@ -1,19 +1,21 @@
 //! The engine: live constraints of two kinds over one trail.
-ghost use Rattle.std.specs.Prelude.{◌≡◌, ◌≤◌, ◌<◌, ◌+◌, ◌-◌, ◌*◌, ◌^◌, ◌++◌, ◌∷◌, Some, None, [], false, length, IfOk, OnOk, OnErr, IfSome, IfNone, option_map, ℕ};
+ghost use Rattle.std.specs.Prelude.{◌≡◌, ◌≤◌, ◌<◌, ◌+◌, ◌-◌, ◌*◌, ◌^◌, ◌++◌, ◌∷◌, Some, None, [], false, length, IfOk, OnOk, OnErr, IfSome, IfNone, IsTrue, option_map, ℕ};
+ghost use Rattle.std.specs.Option.{is_some};
 ghost use Rattle.kn_logic.specs.Literals.{IsKnown, names};
 ghost use Rattle.kn_logic.specs.Constraints.{Bounded, IsWithin};
 ghost use Rattle.kn_logic.specs.Propagation.{IsClosed, IsShort};
 ghost use Rattle.kn_watch.specs.Trails.{literals, below};
 ghost use Rattle.kn_watch.specs.Watches.{listed, IsConflicting};
 ghost use Rattle.kn_propagate.specs.declared.step.Step.TheVariants.{Closed, Conflict};
-ghost use Rattle.kn_propagate.specs.Engines.{constraints, live_in, IsAdded, HasReasonAt, IsConflict, closed_only, IsEngine};
+ghost use Rattle.kn_propagate.specs.Engines.{constraints, live_in, IsAdded, removed, IsNoReason, HasReasonAt, IsConflict, closed_only, IsEngine};
 ghost use Rattle.kn_propagate.specs.Chains.{seen_as, at_slot, held_bounded, AreSame, IsGrown, AreReasoned};
 ghost use Rattle.kn_propagate.specs.Wholes.{IsQuiet, IsTabled};
 
 use crate::chains::Chains;
+use crate::detaching::detach;
 use crate::inserting::insert;
 use crate::settling::settle;
-use crate::slot::{Held, Slot};
+use crate::slot::{Held, Slot, after, vacant};
 use crate::walking::propagate;
 use crate::{NoMemory, Step};
 use indexmap::IndexMap;
@@ -51,9 +53,9 @@ impl<C: Watched, K: Watched> Model for Engine<C, K> {
 }
 
 impl<C: Watched, K: Watched> Engine<C, K> {
-    /// An engine over so many variables, without a constraint and without a literal, at level 0.
+    /// An engine over so many variables, without a constraint and without a literal, at level 0. An error where
+    /// memory is wanting.
     pub fn new(alloc: Global, vars: u64) -> Result<Engine<C, K>, NoMemory>
-        requires { vars < 2 ^ 32 }
         ensures { IfOk result (λ e. e ≡ record { trail = record { vars = vars; level = 0; made = [] }; live = []; last = None }) }
     {
         Ok(Engine {
@@ -124,6 +126,29 @@ impl<C: Watched, K: Watched> Engine<C, K> {
         ensures kept { IsEngine self.new }
     {
         self.add(Held::Klause(k), id)
+    }
+
+    /// Removes the live constraint of an id, which is no reason on the trail. False exactly where no live
+    /// constraint has this id, and then nothing changes. A closed trail stays closed, and a conflict is no more the
+    /// last step. Takes no memory.
+    pub fn remove(&mut self, id: u64) -> bool
+        requires free { IsNoReason self.old.trail.made id }
+        ensures found { result ≡ is_some (live_in self.old.live id) }
+        ensures trail { self.new.trail ≡ self.old.trail }
+        ensures live { self.new.live ≡ removed id self.old.live }
+        ensures last { IsTrue result → self.new.last ≡ closed_only self.old.last }
+        ensures absent { result ≡ false → self.new ≡ self.old }
+        ensures kept { IsEngine self.new }
+    {
+        let Some(owner) = self.index.swap_remove(&id) else {
+            return false;
+        };
+        detach(&self.slots, &mut self.chains, owner, self.trail.vars());
+        let watch = Held::Free { next: self.free };
+        self.slots[owner] = Slot { id: None, watch };
+        self.free = owner + 1;
+        self.last = closed_only(self.last);
+        true
     }
 
     /// Makes a literal without a value true, at a new level. The last step is `Closed`.
@@ -200,15 +225,17 @@ impl<C: Watched, K: Watched> Engine<C, K> {
         ensures kept { IsEngine self.new }
     {
         self.chains.reserve(watch.lits().len())?;
-        self.slots.reserve(1)?;
         self.pending.reserve(1)?;
-        self.index.insert(id, self.slots.len())?;
+        let owner = vacant(&mut self.slots, &mut self.free)?;
+        self.index.insert(id, owner)?;
+        self.free = after(&self.slots[owner].watch);
         insert(
             &mut self.slots,
             &mut self.chains,
             &mut self.pending,
             &self.trail,
             self.visited,
+            owner,
             id,
             watch,
         );

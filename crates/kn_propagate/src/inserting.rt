@@ -1,18 +1,18 @@
-//! A new constraint in a slot of its own.
-ghost use Rattle.std.specs.Prelude.{◌≡◌, ◌≤◌, ◌<◌, ◌+◌, ◌++◌, ◌∷◌, [], ℕ, length, vec_len, vec_capacity};
+//! A new constraint in a free slot.
+ghost use Rattle.std.specs.Prelude.{◌≡◌, ◌≤◌, ◌<◌, ◌+◌, ◌++◌, ◌∷◌, [], None, ℕ, length, vec_len, vec_capacity};
 ghost use Rattle.kn_logic.specs.Constraints.{IsWithin};
 ghost use Rattle.kn_logic.specs.Propagation.{IsShort};
 ghost use Rattle.kn_watch.specs.Trails.{literals, below};
 ghost use Rattle.kn_watch.specs.Watches.{listed};
-ghost use Rattle.kn_propagate.specs.Chains.{seen_as, nobody};
-ghost use Rattle.kn_propagate.specs.Wholes.{IsTabled, HasNew};
+ghost use Rattle.kn_propagate.specs.Chains.{seen_as, at_slot};
+ghost use Rattle.kn_propagate.specs.Wholes.{IsTabled, IsFilled};
 
 use crate::attaching::attach;
 use crate::chains::Chains;
 use crate::slot::Slot;
 use kn_watch::{Trail, Visit, Watched};
 
-/// Puts a constraint into a new slot: its first watches are chosen, each watched place gets an entry, and where
+/// Puts a constraint into a free slot: its first watches are chosen, each watched place gets an entry, and where
 /// it forces a literal or is in conflict, the next propagation is to look at it. There is room for all of this.
 pub fn insert<W: Watched>(
     slots: &mut Vec<Slot<W>>,
@@ -20,28 +20,26 @@ pub fn insert<W: Watched>(
     pending: &mut Vec<usize>,
     trail: &Trail,
     visited: usize,
+    owner: usize,
     id: u64,
     watch: W,
 )
     requires tabled { IsTabled trail.now (seen_as W.bounded W.watches slots.old.items) chains.old visited pending.old.items }
     requires within { IsWithin trail.now.vars (W.bounded watch) }
     requires waits { (k : ℕ) → k < trail.now.level → IsShort (literals (below (k + 1) trail.now.made)) (W.bounded watch) → ⊥ }
-    requires few { length (seen_as W.bounded W.watches slots.old.items) < nobody }
+    requires owner { owner < length (seen_as W.bounded W.watches slots.old.items) }
+    requires free { (at_slot (seen_as W.bounded W.watches slots.old.items) owner).id ≡ None }
     requires room { length chains.old.spots + length (listed (W.bounded watch)) ≤ chains.old.room }
-    requires slot { vec_len slots.old < vec_capacity slots.old }
     requires due { vec_len pending.old < vec_capacity pending.old }
     ensures tabled { IsTabled trail.now (seen_as W.bounded W.watches slots.new.items) chains.new visited pending.new.items }
-    ensures added { HasNew (seen_as W.bounded W.watches slots.old.items) (seen_as W.bounded W.watches slots.new.items) id (W.bounded watch) }
+    ensures added { IsFilled (seen_as W.bounded W.watches slots.old.items) (seen_as W.bounded W.watches slots.new.items) owner id (W.bounded watch) }
 {
     let _ = visited;
     let mut watch = watch;
     let visit = watch.first_watches(trail);
-    let owner = slots.len();
-    let Ok(()) = slots.push(Slot {
+    slots[owner] = Slot {
         id: Some(id),
         watch,
-    }) else {
-        unreachable!()
     };
     attach(slots, chains, owner, trail.vars());
     match visit {

@@ -4,6 +4,7 @@
 
 mod attaching;
 mod chains;
+mod detaching;
 mod engine;
 mod inserting;
 mod settling;

@@ -29,7 +29,7 @@ fn walk<W: Watched>(
     trail: &mut Trail,
     visited: usize,
 ) -> Option<usize>
-    requires small { trail.old.vars < 2 ^ 32 }
+    requires small { 2 * trail.old.vars + 3 < 2 ^ 64 }
     requires sized { length chains.old.heads ≡ 2 * trail.old.vars + 3 }
     requires visited { visited < length trail.old.made }
     requires kept { AreKept trail.old.vars (seen_as W.bounded W.watches slots.old.items) }
@@ -97,7 +97,7 @@ pub fn propagate<W: Watched>(
     trail: &mut Trail,
     visited: &mut usize,
 ) -> Option<usize>
-    requires small { trail.old.vars < 2 ^ 32 }
+    requires small { 2 * trail.old.vars + 3 < 2 ^ 64 }
     requires sized { length chains.old.heads ≡ 2 * trail.old.vars + 3 }
     requires visited { visited.old ≤ length trail.old.made }
     requires kept { AreKept trail.old.vars (seen_as W.bounded W.watches slots.old.items) }

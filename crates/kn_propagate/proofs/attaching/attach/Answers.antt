@@ -1,7 +1,7 @@
-use Rattle.std.proofs.Common.{◌≡◌, ◌+◌, ℕ, List, length, sym, ap, ◌∙◌, subst, arith}
+use Rattle.std.proofs.Common.{◌≡◌, List, length, sym, ap, ◌∙◌, arith}
 use Rattle.kn_logic.specs.Literals.{Literal}
 use Rattle.kn_watch.specs.Watches.{listed}
-use Rattle.kn_propagate.specs.Chains.{Watching, seen_as, at_slot, cut, IsStill}
+use Rattle.kn_propagate.specs.Chains.{Watching, seen_as, at_slot, cut}
 use Rattle.kn_propagate.proofs.Turning.{length-seen, seen_here}
 use Rattle.kn_propagate.proofs.Adding.{still_agrees, cut_whole}
 use Rattle.kn_propagate.proofs.attaching.attach.Goals as goal

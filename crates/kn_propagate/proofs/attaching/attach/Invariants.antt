@@ -1,4 +1,4 @@
-use Rattle.std.proofs.Common.{◌≡◌, ◌≤◌, ◌+◌, ◌*◌, ℕ, length}
+use Rattle.std.proofs.Common.{◌≡◌, ◌≤◌, ◌+◌, ◌*◌, length}
 use Rattle.kn_watch.specs.Watches.{listed}
 use Rattle.kn_propagate.specs.Chains.{seen_as, at_slot, cut, IsStill, AreSpare}
 use Rattle.kn_propagate.proofs.attaching.attach.Given as goal

@@ -1,7 +1,7 @@
-use Rattle.std.proofs.Common.{◌≡◌, ◌*◌, ◌+◌, ℕ, Bool, true, false, not, ◌≤◌, List, length, refl, sym, ap, ◌∙◌, subst, arith}
+use Rattle.std.proofs.Common.{◌≡◌, ◌*◌, ◌+◌, ℕ, true, ◌≤◌, List, length, sym, ap, ◌∙◌, arith}
 use Rattle.kn_logic.specs.Constraints.{Bounded}
 use Rattle.kn_watch.specs.Watches.{listed, lit_at}
-use Rattle.kn_propagate.specs.Chains.{Watching, seen_as, at_slot, code, lit_of_spot, cut, nobody, IsStill}
+use Rattle.kn_propagate.specs.Chains.{Watching, seen_as, at_slot, code, lit_of_spot, cut, nobody}
 use Rattle.kn_propagate.proofs.Relinking.{a_spot}
 use Rattle.kn_propagate.proofs.Turning.{length-seen, seen_here}
 use Rattle.kn_propagate.proofs.Adding.{still_unused, still_gains, spare_laid, cut_gains, within_cut, length-cut, c_cut}

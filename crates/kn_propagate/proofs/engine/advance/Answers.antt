@@ -1,7 +1,7 @@
-use Rattle.std.proofs.Common.{◌≡◌, ◌≤◌, ℕ, List, [], Option, length, take, refl, sym, ap, ◌∙◌, subst}
+use Rattle.std.proofs.Common.{◌≤◌, ℕ, List, length, sym, subst}
 use Rattle.kn_watch.specs.Trails.{literals}
-use Rattle.kn_propagate.specs.Chains.{seen_as, IsIdle, AreSettled}
-use Rattle.kn_propagate.specs.Wholes.{IsQuiet, IsTabled}
+use Rattle.kn_propagate.specs.Chains.{seen_as, AreSettled}
+use Rattle.kn_propagate.specs.Wholes.{IsTabled}
 use Rattle.kn_propagate.proofs.Reasons.{reasons_trans}
 use Rattle.kn_propagate.proofs.Engined.{if_none}
 use Rattle.kn_propagate.proofs.Advancing.{tabled_grows, tabled_settled, idle_of, tabled_walked, quiet_all}

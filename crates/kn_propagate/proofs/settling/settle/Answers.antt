@@ -1,5 +1,4 @@
-use Rattle.std.proofs.Common.{◌≡◌, ℕ, ◌<◌, length, subst, arith}
-use Rattle.kn_watch.specs.Trails.{literals}
+use Rattle.std.proofs.Common.{◌<◌, length, arith}
 use Rattle.kn_propagate.specs.Chains.{seen_as}
 use Rattle.kn_propagate.proofs.Resting.{grown_same}
 use Rattle.kn_propagate.proofs.Walks.{grown_trans}

@@ -1,4 +1,4 @@
-use Rattle.std.proofs.Common.{◌≡◌, List, take}
+use Rattle.std.proofs.Common.{take}
 use Rattle.kn_watch.specs.Trails.{literals}
 use Rattle.kn_propagate.specs.Chains.{seen_as, IsGrown, AreReasoned, AreSettled}
 use Rattle.kn_propagate.proofs.settling.settle.Given as goal

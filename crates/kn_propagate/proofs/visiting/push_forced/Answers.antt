@@ -1,4 +1,4 @@
-use Rattle.std.proofs.Common.{◌≡◌, ℕ, ◌<◌, ◌+◌, ◌++◌, ◌∷◌, [], Bool, true, false, List, length, refl, sym, ap, ◌∙◌, subst, inl, inr, arith}
+use Rattle.std.proofs.Common.{◌≡◌, ℕ, ◌<◌, ◌+◌, ◌++◌, ◌∷◌, [], true, false, List, length, refl, sym, ap, ◌∙◌, subst, inl, inr, arith}
 use Rattle.std.specs.Prelude.{slice_index_or, Some}
 use Rattle.std.proofs.lemmas.Bool.{not-true}
 use Rattle.std.proofs.lemmas.List.{get_or_read}
@@ -7,7 +7,7 @@ use Rattle.kn_logic.specs.Constraints.{Bounded}
 use Rattle.kn_logic.specs.Propagation.{Forces}
 use Rattle.kn_watch.specs.declared.trail.Made.{Made}
 use Rattle.kn_watch.specs.Trails.{Trailed, literals, IsTrail}
-use Rattle.kn_watch.specs.Watches.{listed, lit_at, IsForced, IsSatisfied}
+use Rattle.kn_watch.specs.Watches.{listed, lit_at, IsForced}
 use Rattle.kn_propagate.specs.Chains.{IsGrown, AreForcedBy}
 use Rattle.kn_propagate.proofs.Resting.{grown_same}
 use Rattle.kn_watch.proofs.Public.{names_unset, consistent_of}

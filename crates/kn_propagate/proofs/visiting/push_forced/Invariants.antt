@@ -1,4 +1,3 @@
-use Rattle.std.proofs.Common.{◌≡◌}
 use Rattle.kn_watch.specs.Trails.{literals}
 use Rattle.kn_propagate.specs.Chains.{IsGrown, AreForcedBy}
 use Rattle.kn_watch.proofs.Public.{IsForcedTo}

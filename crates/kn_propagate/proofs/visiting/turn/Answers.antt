@@ -1,4 +1,3 @@
-use Rattle.std.proofs.Common.{◌≡◌, sym, ap, ◌∙◌, subst}
 use Rattle.kn_watch.specs.Trails.{literals}
 use Rattle.kn_propagate.proofs.Turning.{turned_seen, kept_seen}
 use Rattle.kn_propagate.proofs.visiting.turn.Goals as goal

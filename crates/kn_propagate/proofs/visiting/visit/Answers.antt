@@ -1,4 +1,4 @@
-use Rattle.std.proofs.Common.{◌≡◌, ◌<◌, ℕ, length, ap, ◌∙◌, arith}
+use Rattle.std.proofs.Common.{◌<◌, ℕ, length, ap, ◌∙◌, arith}
 use Rattle.kn_propagate.specs.Chains.{Watching, seen_as}
 use Rattle.kn_propagate.proofs.Turning.{length-seen, slot_is}
 use Rattle.kn_propagate.proofs.Reasons.{reasons_of}

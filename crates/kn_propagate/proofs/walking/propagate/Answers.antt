@@ -1,8 +1,8 @@
-use Rattle.std.proofs.Common.{◌≡◌, ℕ, ◌<◌, ◌≤◌, ◌+◌, ◌-◌, ◌*◌, List, length, take, refl, sym, ap, ◌∙◌, subst, arith}
+use Rattle.std.proofs.Common.{◌≡◌, ℕ, ◌<◌, ◌+◌, ◌*◌, List, length, take, sym, ap, ◌∙◌, subst, arith}
 use Rattle.std.specs.Prelude.{slice_index_or, slice_set}
 use Rattle.kn_logic.specs.Literals.{negated}
-use Rattle.kn_watch.specs.Trails.{Trailed, literals, lit_of}
-use Rattle.kn_propagate.specs.Chains.{seen_as, code, hand_of, AreKept, IsIdle, IsWalking, AreSpared}
+use Rattle.kn_watch.specs.Trails.{literals, lit_of}
+use Rattle.kn_propagate.specs.Chains.{seen_as, code, hand_of, AreKept, IsWalking, AreSpared}
 use Rattle.kn_propagate.proofs.Lifting.{lift_walking}
 use Rattle.kn_propagate.proofs.Resting.{grown_same}
 use Rattle.kn_propagate.proofs.Reasons.{reasons_none, reasons_trans, reasons_same}

@@ -1,4 +1,4 @@
-use Rattle.std.proofs.Common.{◌≡◌, ℕ, ◌<◌, List, length, take, ap, ◌∙◌, arith}
+use Rattle.std.proofs.Common.{ℕ, ◌<◌, List, length, take, ap, ◌∙◌, arith}
 use Rattle.kn_watch.specs.Trails.{literals}
 use Rattle.kn_propagate.specs.Chains.{seen_as, hand_of}
 use Rattle.kn_propagate.proofs.Steps.{numbered, head_within, owned_drawn}

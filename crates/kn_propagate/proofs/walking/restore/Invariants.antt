@@ -1,4 +1,4 @@
-use Rattle.std.proofs.Common.{◌≡◌, ◌<◌, ℕ, List, length, slice_index_or, take}
+use Rattle.std.proofs.Common.{◌≡◌, length, slice_index_or, take}
 use Rattle.kn_watch.specs.Trails.{literals}
 use Rattle.kn_propagate.specs.Chains.{seen_as, IsStopped, AreSpared, hand_of, count_from}
 use Rattle.kn_propagate.proofs.walking.restore.Given as goal

@@ -1,18 +1,17 @@
-use Rattle.std.proofs.Common.{◌≡◌, ℕ, ◌<◌, ◌≤◌, ◌*◌, ◌+◌, ◌-◌, ◌++◌, ◌∷◌, [], List, length, take, refl, sym, ap, ◌∙◌, subst, arith}
+use Rattle.std.proofs.Common.{◌≡◌, ℕ, ◌<◌, ◌*◌, ◌+◌, ◌++◌, ◌∷◌, [], List, length, take, sym, ap, ◌∙◌, subst, arith}
 use Rattle.std.specs.Prelude.{slice_index_or, slice_set}
 use Rattle.std.proofs.lemmas.Grind.{common_steps}
 use Rattle.kn_logic.specs.Constraints.{Bounded}
-use Rattle.kn_logic.specs.Literals.{Literal, negated, has}
-use Rattle.kn_logic.specs.Propagation.{is_open}
+use Rattle.kn_logic.specs.Literals.{Literal, negated}
 use Rattle.kn_propagate.specs.declared.chains.Spot.{Spot}
-use Rattle.kn_watch.specs.Trails.{Trailed, literals, lit_of}
-use Rattle.kn_watch.specs.Watches.{listed, lit_at, IsSatisfied, IsConflicting}
+use Rattle.kn_watch.specs.Trails.{literals, lit_of}
+use Rattle.kn_watch.specs.Watches.{listed, lit_at, IsConflicting}
 use Rattle.kn_propagate.specs.Chains.{Watching, seen_as, at_slot, lit_of_spot, code, spot_at, AreKept, IsStopped, hand_of}
 use Rattle.kn_propagate.proofs.Relinking.{a_spot}
 use Rattle.kn_watch.proofs.Public.{all_within_grown}
 use Rattle.kn_propagate.proofs.Resting.{grown_same}
 use Rattle.kn_propagate.proofs.Turning.{length-seen}
-use Rattle.kn_propagate.proofs.Steps.{IsEntry, numbered, entry_is, head_within, is_false, has_at, step_done}
+use Rattle.kn_propagate.proofs.Steps.{numbered, entry_is, head_within, is_false, has_at, step_done}
 use Rattle.kn_propagate.proofs.Reasons.{reasons_none, reasons_trans, reasons_same}
 use Rattle.kn_propagate.proofs.Sparing.{spared_same, spared_lay, spared_place}
 use Rattle.kn_propagate.proofs.Walks.{same_refl, walking_at, stopped_at, grown_trans, known_at, code_known, walk_stays, walk_moves, walk_stops, walk_less, long_kept, long_drawn, same_trans, listed_known, take_grown, take_next}

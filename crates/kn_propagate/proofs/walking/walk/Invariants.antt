@@ -1,7 +1,7 @@
-use Rattle.std.proofs.Common.{◌≡◌, ◌≤◌, ◌<◌, ◌+◌, ◌-◌, ◌*◌, ℕ, List, length, slice_index_or, take}
-use Rattle.kn_logic.specs.Literals.{Literal, negated, has}
-use Rattle.kn_watch.specs.Trails.{Trailed, literals, below, lit_of}
-use Rattle.kn_propagate.specs.Chains.{seen_as, code, AreKept, IsWalking, AreSame, IsGrown, AreReasoned, AreSpared, IsFresh, hand_of, count_from}
+use Rattle.std.proofs.Common.{◌≡◌, ◌+◌, ◌*◌, length, slice_index_or, take}
+use Rattle.kn_logic.specs.Literals.{negated}
+use Rattle.kn_watch.specs.Trails.{literals, lit_of}
+use Rattle.kn_propagate.specs.Chains.{seen_as, code, AreKept, IsWalking, AreSame, IsGrown, AreReasoned, AreSpared, hand_of, count_from}
 use Rattle.kn_propagate.proofs.walking.walk.Given as goal
 
 abbrev pub invariant-loop-entry : goal.invariant-loop-entry

@@ -7,7 +7,6 @@ use Rattle.kn_logic.specs.Constraints.{Bounded}
 use Rattle.kn_watch.specs.Watches.{listed}
 use Rattle.kn_propagate.specs.Engines.{Engined, live_in, IsEngine}
 use Rattle.kn_propagate.specs.Chains.{Watching, seen_as, held_bounded, held_watches}
-use Rattle.kn_propagate.specs.Wholes.{live_of}
 use Rattle.kn_propagate.proofs.Turning.{length-seen, seen_here}
 use Rattle.kn_propagate.proofs.Handing.{engine_is, distinct, live_is, none_is}
 use Rattle.kn_propagate.proofs.engine.Engine.lits_of.Goals as goal

@@ -1,4 +1,4 @@
-use Rattle.std.proofs.Common.{◌≡◌, ◌*◌, ◌+◌, ℕ, List, [], Option, None, replicate, refl, sym, ap, ◌∙◌, subst, arith}
+use Rattle.std.proofs.Common.{◌≡◌, ◌*◌, ◌+◌, ℕ, List, [], Option, None, replicate, refl, sym, ap, subst, arith}
 use Rattle.std.specs.Prelude.{nat_eq}
 use Rattle.std.proofs.lemmas.Grind.{common_steps}
 use Rattle.indexmap.specs.IndexMap.{get}
@@ -21,5 +21,5 @@ invariant_of-result g c =
     let count : ℕ = 2 * c.args.vars + 3 in
     let find : ℕ → Option ℕ = get nat_eq c.new-5.result in
     let none : (id : ℕ) → find id ≡ None = λ id. grind (arith, common_steps, c.new-5.ensures.empty) in
-    joined c.args.vars count find c.in_ok-new.field-0 (seen_as (held_bounded g.C.Watched.bounded g.K.Watched.bounded) (held_watches g.C.Watched.watches g.K.Watched.watches) c.new-2.result.items) c.in_ok-new-2.field-0 c.new-4.result.items (whole_new c.args.vars count find c.requires refl none)
-    c.in_ok-new.ensures (ap (seen_as (held_bounded g.C.Watched.bounded g.K.Watched.bounded) (held_watches g.C.Watched.watches g.K.Watched.watches)) c.new-2.ensures.items) c.in_ok-new-2.ensures c.new-4.ensures.items
+    joined c.args.vars count find c.in_ok-new.field-0 (seen_as (held_bounded g.C.Watched.bounded g.K.Watched.bounded) (held_watches g.C.Watched.watches g.K.Watched.watches) c.new-2.result.items) c.in_ok-new-2.field-0 c.new-4.result.items (whole_new c.args.vars count find c.in_ok-new-2.ensures.small refl none)
+    c.in_ok-new.ensures (ap (seen_as (held_bounded g.C.Watched.bounded g.K.Watched.bounded) (held_watches g.C.Watched.watches g.K.Watched.watches)) c.new-2.ensures.items) c.in_ok-new-2.ensures.value c.new-4.ensures.items

@@ -1,18 +1,11 @@
-use Rattle.std.proofs.Common.{◌≡◌, ◌<◌, ◌≤◌, ◌+◌, ℕ, min, List, Option, Some, None, length, refl, sym, ap, ◌∙◌, subst, arith}
+use Rattle.std.proofs.Common.{◌≡◌, ◌<◌, ℕ, Option, Some, length, ap, ◌∙◌, subst, arith}
 use Rattle.std.specs.Prelude.{nat_eq}
-use Rattle.std.proofs.lemmas.Grind.{common_steps}
 use Rattle.indexmap.specs.IndexMap.{get}
-use Rattle.kn_watch.specs.declared.trail.Made.{Made}
-use Rattle.kn_watch.specs.Trails.{Trailed, literals}
-use Rattle.kn_propagate.specs.declared.step.Step.{Step}
 use Rattle.kn_propagate.specs.declared.step.Step.TheVariants.{Closed, Conflict}
-use Rattle.kn_propagate.specs.Engines.{Live, Engined, IsEngine, IsConflict, closed_only}
+use Rattle.kn_propagate.specs.Engines.{Engined, IsConflict}
 use Rattle.kn_propagate.specs.Chains.{Watching, seen_as, at_slot, held_bounded, held_watches}
 use Rattle.kn_propagate.specs.Wholes.{live_of, IsWhole}
 use Rattle.kn_propagate.proofs.Turning.{length-seen, seen_here}
-use Rattle.kn_propagate.proofs.Walks.{made_few}
-use Rattle.kn_propagate.proofs.Founding.{levels_few}
-use Rattle.kn_propagate.proofs.Levels.{whole_assume, whole_back}
 use Rattle.kn_propagate.proofs.Handing.{engine_is}
 use Rattle.kn_propagate.proofs.Engined.{live_same, forced_now, whole_closed, whole_conflict}
 use Rattle.kn_propagate.proofs.engine.Engine.propagate.Goals as goal

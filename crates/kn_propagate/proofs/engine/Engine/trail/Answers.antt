@@ -1,5 +1,5 @@
-use Rattle.std.proofs.Common.{◌≡◌, subst}
-use Rattle.kn_propagate.specs.Engines.{Engined, IsEngine}
+use Rattle.std.proofs.Common.{subst}
+use Rattle.kn_propagate.specs.Engines.{IsEngine}
 use Rattle.kn_propagate.proofs.Handing.{engine_is}
 use Rattle.kn_propagate.proofs.engine.Engine.trail.Goals as goal
 
