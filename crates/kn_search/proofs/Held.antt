@@ -19,7 +19,7 @@ use Rattle.kn_search.proofs.Ids.{id-within, given-last}
 use Rattle.kn_search.proofs.Mirroring.{unused-id, added-found, added-other}
 use Rattle.kn_search.proofs.Once.{once-push}
 
-length-push : (ps : List ℕ) (p : ℕ) → length (ps ++ p ∷ []) ≡ length ps + 1
+pub length-push : (ps : List ℕ) (p : ℕ) → length (ps ++ p ∷ []) ≡ length ps + 1
 length-push [] p = refl
 length-push (x ∷ ps) p = omega (arith, length-push ps p)
 

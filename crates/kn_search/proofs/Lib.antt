@@ -8,3 +8,6 @@ mod Once
 mod Held
 mod Levels
 mod Models
+mod Forgotten
+mod Splits
+mod Closing

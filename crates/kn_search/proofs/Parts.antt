@@ -32,6 +32,9 @@ deletions_in-append (line ∷ a) b = omega (arith, deletions_in-append a b)
 pub part-none : (vars forget deletions : ℕ) (log : Logged) (w : Option (List ℕ)) → log.failed ≡ false → LogsPart vars forget deletions 0 0 log log w w
 part-none vars forget deletions log w whole = ([], record { searches = refl; none = tt; learned_ = refl; deleted = refl }, Adds-none log w whole)
 
+pub part-start : (vars forget k : ℕ) (log : Logged) (w : Option (List ℕ)) → k ≡ 0 → log.failed ≡ false → LogsPart vars forget 0 0 k log log w w
+part-start vars forget k log w none whole = subst (λ (n : ℕ). LogsPart vars forget 0 0 n log log w w) (sym none) (part-none vars forget 0 log w whole)
+
 -- a line that may be logged
 may-line : (vars forget deletions : ℕ) (old new : ProofState) (line : Line) → step old line ≡ Ok new → Allows vars forget deletions old line → SearchesBy vars forget deletions old (line ∷ []) new
 may-line vars forget deletions old new line e allows = (new, e, allows, (λ _. refl), refl)
@@ -107,3 +110,33 @@ line-logs vars forget deletions most old new w w' line (Err e) whole allows few 
 pub handed-on : {T E : Type 0} (P : E → Type 0) (r : Result T E) (e : E) → IsErrAnd r (λ x. x ≡ e) → P e → IfErr r P
 handed-on P (Ok x) e is h = tt
 handed-on P (Err x) e is h = subst P (sym is) h
+
+-- over as many variables
+pub part-vars : (a b forget deletions n k : ℕ) (old new : Logged) (w u : Option (List ℕ)) → a ≡ b → LogsPart a forget deletions n k old new w u → LogsPart b forget deletions n k old new w u
+part-vars a b forget deletions n k old new w u same h = subst (λ (v : ℕ). LogsPart v forget deletions n k old new w u) same h
+
+pub fail-vars : (a b forget deletions most : ℕ) (old new : Logged) (w u : Option (List ℕ)) (e : LogError) → a ≡ b → LogsPartNot a forget deletions most old new w u e → LogsPartNot b forget deletions most old new w u e
+fail-vars a b forget deletions most old new w u e same h = subst (λ (v : ℕ). LogsPartNot v forget deletions most old new w u e) same h
+
+-- one learned clause more
+pub part-learned : (vars forget n k : ℕ) (old mid new : Logged) (w x v : Option (List ℕ)) → LogsPart vars forget 0 n k old mid w x → LogsPart vars forget (0 + k) 1 0 mid new x v → LogsPart vars forget 0 (n + 1) (k + 0) old new w v
+part-learned vars forget n k old mid new w x v first learned = part-join vars forget 0 n k 1 0 old mid new w x v first learned
+
+-- and perhaps a deletion
+pub part-turn : (vars forget n k d more k' : ℕ) (old mid next new : Logged) (w x v u : Option (List ℕ)) → LogsPart vars forget 0 n k old mid w x → LogsPart vars forget (0 + k) 1 0 mid next x v → d ≡ k → k' ≡ d + more → LogsPart vars forget d 0 more next new v u
+    → LogsPart vars forget 0 (n + 1) k' old new w u
+part-turn vars forget n k d more k' old mid next new w x v u first learned same is forgot =
+    let both = part-learned vars forget n k old mid next w x v first learned in
+    let at : d ≡ 0 + (k + 0) = omega (arith, same) in
+    let all = part-join vars forget 0 (n + 1) (k + 0) 0 more old next new w v u both (subst (λ (i : ℕ). LogsPart vars forget i 0 more next new v u) at forgot) in
+    let deleted : (k + 0) + more ≡ k' = omega (arith, is, same) in
+    let learnt : (n + 1) + 0 ≡ n + 1 = omega arith in
+    subst (λ (m : ℕ). LogsPart vars forget 0 m k' old new w u) learnt (subst (λ (i : ℕ). LogsPart vars forget 0 ((n + 1) + 0) i old new w u) deleted all)
+
+-- or the log failed at a deletion
+pub turn-fails : (vars forget n k d budget : ℕ) (old mid next new : Logged) (w x v u : Option (List ℕ)) (e : LogError) → n + 1 ≤ budget → LogsPart vars forget 0 n k old mid w x → LogsPart vars forget (0 + k) 1 0 mid next x v → d ≡ k → LogsPartNot vars forget d 0 next new v u e
+    → LogsPartNot vars forget 0 budget old new w u e
+turn-fails vars forget n k d budget old mid next new w x v u e le first learned same failed =
+    let at : d ≡ 0 + (k + 0) = omega (arith, same) in
+    may-fail vars forget 0 (n + 1) (k + 0) 0 budget old next new w v u e (omega (arith, le)) (part-learned vars forget n k old mid next w x v first learned)
+    (subst (λ (i : ℕ). LogsPartNot vars forget i 0 next new v u e) at failed)

@@ -1,5 +1,5 @@
 -- What a search does between two of its conflicts, and what it keeps of the clauses that it has learned.
-use Rattle.std.specs.Prelude.{ℕ, ◌≡◌, ◌≤◌, ◌==◌, ◌||◌, Bool, true, false, List, [], ◌∷◌, length, Option, Some, None, Result, Ok, Err}
+use Rattle.std.specs.Prelude.{ℕ, ◌≡◌, ◌≤◌, ◌+◌, ◌==◌, ◌||◌, Bool, true, false, List, [], ◌∷◌, length, Option, Some, None, Result, Ok, Err}
 use Rattle.std.specs.List.{AllByRecursion}
 use Rattle.kn_logic.specs.Constraints.{Bounded}
 use Rattle.kn_lines.specs.declared.line.Line.{Line}
@@ -10,7 +10,8 @@ use Rattle.kn_rules.specs.Searching.{is_learned, learned_live, SearchesBy, HasNo
 use Rattle.kn_log.specs.Logs.{Logged}
 use Rattle.kn_log.specs.Written.{AddsSuch, LogsSuchNot}
 use Rattle.kn_log.specs.declared.error.LogError.{LogError}
-use Rattle.kn_propagate.specs.Engines.{Live, live_in}
+use Rattle.kn_watch.specs.declared.trail.Made.{Made}
+use Rattle.kn_propagate.specs.Engines.{Live, live_in, removed, IsNoReason}
 use Rattle.kn_search.specs.Outcomes.{MayLog}
 
 -- Lines of a search that goes on: so many of them are learned clauses, so many are deletions, and none is a lemma.
@@ -52,3 +53,18 @@ pub record AreHeld (given : List Given) (ids : List ℕ) : Type 0 where
 pub record AreKept (first live : List Live) (ids : List ℕ) : Type 0 where
   pub live_ : (id : ℕ) (c : Bounded) → live_in first id ≡ Some c → live_in live id ≡ Some c
   pub others : AllByRecursion (λ id. live_in first id ≡ None) ids
+
+-- the live constraints without those of these ids
+abbrev pub removed_all : List ℕ → List Live → List Live
+removed_all [] live = live
+removed_all (id ∷ ids) live = removed_all ids (removed id live)
+
+-- The ids in two parts: those of the one are no reasons on the trail, and the rest. Each stands in one of them, once.
+pub record IsSplit (made : List Made) (ids out rest : List ℕ) : Type 0 where
+  pub free : AllByRecursion (IsNoReason made) out
+  pub out_in : (q : ℕ) → contains out q ≡ true → contains ids q ≡ true
+  pub rest_in : (q : ℕ) → contains rest q ≡ true → contains ids q ≡ true
+  pub apart : (q : ℕ) → contains out q ≡ true → contains rest q ≡ true → ⊥
+  pub out_once : AreOnce out
+  pub rest_once : AreOnce rest
+  pub count : length out + length rest ≡ length ids

@@ -4,7 +4,7 @@ ghost use Rattle.kn_logic.specs.Literals.{has, AreDifferent};
 ghost use Rattle.kn_logic.specs.Propagation.{IsClosed};
 ghost use Rattle.kn_watch.specs.Trails.{literals};
 ghost use Rattle.kn_propagate.specs.declared.step.Step.TheVariants.{Conflict};
-ghost use Rattle.kn_propagate.specs.Engines.{constraints};
+ghost use Rattle.kn_propagate.specs.Engines.{constraints, IsEngine};
 ghost use Rattle.kn_search.specs.Deciding.{IsTotal, AreValuesOf};
 
 use crate::decider::Decider;
@@ -25,6 +25,7 @@ pub fn dive<K: Watched>(
     ensures conflict { IfSome result (λ id. engine.new.last ≡ Some (Conflict id)) }
     ensures closed { IfNone result (IsClosed (literals engine.new.trail.made) (constraints engine.new.live)) }
     ensures total { IfNone result (IsTotal engine.new.trail) }
+    ensures kept { IsEngine engine.new }
 {
     loop {
         if let Step::Conflict { id } = engine.propagate() {

@@ -1,5 +1,6 @@
 //! What guides a search: which literal is assumed, what is learned of a conflict, and how far back to go.
 ghost use Rattle.std.specs.Prelude.{◌≤◌};
+ghost use Rattle.kn_propagate.specs.Engines.{IsEngine};
 
 use crate::decider::Decider;
 use crate::restarts::Restarts;
@@ -25,9 +26,12 @@ impl Guide {
         alloc: Global,
         engine: &Engine<ClauseWatch, K>,
         log: &Log,
-    ) -> Result<Guide, NoMemory> {
+    ) -> Result<Guide, NoMemory>
+        ensures { IsEngine engine.now }
+    {
+        let vars = engine.vars();
         Ok(Guide {
-            decider: first_decider(alloc, engine, log)?,
+            decider: first_decider(alloc, engine, log, vars)?,
             analysis: Analysis::new(alloc),
             restarts: Restarts::new(),
         })
@@ -49,8 +53,8 @@ fn first_decider<K: Watched>(
     alloc: Global,
     engine: &Engine<ClauseWatch, K>,
     log: &Log,
+    vars: u64,
 ) -> Result<Decider, NoMemory> {
-    let vars = engine.vars();
     let mut decider = Decider::new(alloc, vars)?;
     for id in 1..log.next_id() {
         let Some(lits) = engine.lits_of(id) else {

@@ -10,9 +10,12 @@
 mod concluding;
 mod decider;
 mod diving;
+mod forgetting;
 mod guide;
 mod heap;
 mod outcome;
 mod restarts;
+mod searching;
 
 pub use outcome::{Options, Outcome, SearchError};
+pub use searching::search;
