@@ -1,0 +1,14 @@
+pub mod Lists
+pub mod Touching
+pub mod Places
+pub mod Needing
+pub mod Coming
+pub mod Exploring
+pub mod Swept
+pub mod Runs
+pub mod Forced
+pub mod Locks
+pub mod Explained
+pub mod Fresh
+pub mod Taught
+pub mod Public

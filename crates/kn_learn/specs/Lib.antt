@@ -1,0 +1,4 @@
+pub mod Lessons
+pub mod Reasons
+pub mod Marking
+pub mod Analyses
