@@ -11,3 +11,4 @@ mod Models
 mod Forgotten
 mod Splits
 mod Closing
+mod Loaded

@@ -13,9 +13,11 @@ mod diving;
 mod forgetting;
 mod guide;
 mod heap;
+mod loading;
 mod outcome;
 mod restarts;
 mod searching;
 
+pub use loading::engine_of;
 pub use outcome::{Options, Outcome, SearchError};
 pub use searching::search;
