@@ -12,3 +12,5 @@ mod Forgotten
 mod Splits
 mod Closing
 mod Loaded
+mod Budgets
+pub mod Public

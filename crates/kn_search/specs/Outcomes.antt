@@ -1,5 +1,5 @@
 -- What a search has done: the lines that it logged, and what its outcome says.
-use Rattle.std.specs.Prelude.{ℕ, ◌≡◌, ◌≤◌, Bool, true, List, length, Option}
+use Rattle.std.specs.Prelude.{ℕ, ◌≡◌, ◌≤◌, ◌<◌, ◌^◌, Bool, true, List, length, Option}
 use Rattle.std.specs.List.{AllByRecursion}
 use Rattle.kn_logic.specs.Constraints.{Holds}
 use Rattle.kn_lines.specs.declared.line.Line.{Line}
@@ -46,6 +46,11 @@ pub record Ends (engine : Engined) (options : Options) (old new : Logged) (w w' 
 abbrev pub EndsNot : Engined → Options → Logged → Logged → Option (List ℕ) → Option (List ℕ) → SearchError → Type 0
 EndsNot engine options old new w w' Memory = AddsSuch (MayLog engine.trail.vars options.forget 0 options.conflicts old.state new.state) old new w w'
 EndsNot engine options old new w w' WriteFault = BreaksSuch (MayLog engine.trail.vars options.forget 0 options.conflicts old.state new.state) old new w w'
+
+-- A budget that can be spent: below 3 to the power of the number of variables where nothing is forgotten, and below 9
+-- to that power in any case.
+abbrev pub IsSmall : Options → ℕ → Type 0
+IsSmall options vars = (options.forget ≡ 0 → options.conflicts < 3 ^ vars) × (options.conflicts < 9 ^ vars)
 
 -- what a search answers where its log fails
 abbrev pub error_of : LogError → SearchError

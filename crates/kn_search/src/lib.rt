@@ -13,11 +13,13 @@ mod diving;
 mod forgetting;
 mod guide;
 mod heap;
+mod laws;
 mod loading;
 mod outcome;
 mod restarts;
 mod searching;
 
+pub use laws::large_budgets_are_not_spent;
 pub use loading::engine_of;
 pub use outcome::{Options, Outcome, SearchError};
 pub use searching::search;
