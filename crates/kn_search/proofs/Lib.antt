@@ -1,10 +1,16 @@
-pub mod Follow
-pub mod Logging
-pub mod Totals
-pub mod Entries
-pub mod Forcing
-pub mod Judging
-pub mod Steps
-pub mod Clauses
-pub mod Endings
-pub mod Quiet
+mod Naming
+mod Choices
+mod Ids
+mod Hinted
+mod Mirroring
+mod Parts
+mod Once
+mod Held
+mod Levels
+mod Models
+mod Forgotten
+mod Splits
+mod Closing
+mod Loaded
+mod Budgets
+pub mod Public

@@ -1,3 +1,4 @@
-pub mod Trails
-pub mod Searches
+pub mod Mirrors
 pub mod Outcomes
+pub mod Deciding
+pub mod Searches

@@ -1,98 +1,70 @@
--- What a search does between two of its conflicts, and what it keeps.
-use Rattle.std.specs.Prelude.{ℕ, ◌≡◌, ◌≤◌, ◌<◌, ◌+◌, ◌^◌, ◌++◌, Bool, true, false, List, [], ◌∷◌, map, length, Option, Some, None, slice_get}
-use Rattle.kn_logic.specs.Literals.{Literal, has, names, IsKnown}
-use Rattle.kn_logic.specs.Constraints.{Bounded, clause, Holds}
-use Rattle.kn_logic.specs.Assignments.{value_of}
-use Rattle.kn_logic.specs.Formulas.{Problem, Satisfies}
-use Rattle.kn_logic.specs.Propagation.{after_hint}
+-- What a search does between two of its conflicts, and what it keeps of the clauses that it has learned.
+use Rattle.std.specs.Prelude.{ℕ, ◌≡◌, ◌≤◌, ◌+◌, ◌==◌, ◌||◌, Bool, true, false, List, [], ◌∷◌, length, Option, Some, None, Result, Ok, Err}
+use Rattle.std.specs.List.{AllByRecursion}
+use Rattle.kn_logic.specs.Constraints.{Bounded}
 use Rattle.kn_lines.specs.declared.line.Line.{Line}
-use Rattle.kn_lines.specs.declared.line.Line.TheVariants.{Lemma, Learned}
 use Rattle.kn_rules.specs.declared.given.Given.{Given}
-use Rattle.kn_rules.specs.States.{ProofState, from_file, live_at}
-use Rattle.kn_search.specs.declared.trail.Entry.{Entry}
-use Rattle.kn_search.specs.declared.propagation.Seen.{Seen}
-use Rattle.kn_search.specs.declared.propagation.Seen.TheVariants.{Quiet, Forces, Conflict}
-use Rattle.kn_search.specs.declared.propagation.Effect.{Effect}
-use Rattle.kn_search.specs.declared.propagation.Effect.TheVariants as effect
-use Rattle.kn_search.specs.declared.deciding.Found.{Found}
-use Rattle.kn_search.specs.declared.deciding.Found.TheVariants as found
-use Rattle.kn_search.specs.Trails.{Trailed, literals, reasons, refuted_decisions, Follows, IsConflict}
+use Rattle.kn_rules.specs.States.{ProofState, given_at}
+use Rattle.kn_rules.specs.Stepping.{learned_in, deletions_in}
+use Rattle.kn_rules.specs.Searching.{is_learned, learned_live, SearchesBy, HasNoLemma}
+use Rattle.kn_log.specs.Logs.{Logged}
+use Rattle.kn_log.specs.Written.{AddsSuch, LogsSuchNot}
+use Rattle.kn_log.specs.declared.error.LogError.{LogError}
+use Rattle.kn_watch.specs.declared.trail.Made.{Made}
+use Rattle.kn_propagate.specs.Engines.{Live, live_in, removed, IsNoReason}
+use Rattle.kn_search.specs.Outcomes.{MayLog}
 
--- A hint, which makes this of the list, adds nothing that is not there.
-abbrev pub AddsNothing : List Literal → Option (List Literal) → Type 0
-AddsNothing trail after = (next : List Literal) × (after ≡ Some next) × ((l : Literal) → has next l ≡ true → has trail l ≡ true)
+-- Lines of a search that goes on: so many of them are learned clauses, so many are deletions, and none is a lemma.
+pub record IsPart (vars forget deletions learned more : ℕ) (old new : ProofState) (lines : List Line) : Type 0 where
+  pub searches : SearchesBy vars forget deletions old lines new
+  pub none : HasNoLemma lines
+  pub learned_ : learned_in lines ≡ learned
+  pub deleted : deletions_in lines ≡ more
 
--- What was seen of a constraint: it adds nothing, forces a literal without a value, or is in conflict. `after` is
--- what it makes of the list as a hint.
-abbrev pub Sees : ℕ → List Literal → Option (List Literal) → Seen → Type 0
-Sees vars trail after Quiet = AddsNothing trail after
-Sees vars trail after (Forces l) =
-    IsKnown vars l × (names trail l.variable ≡ false) × ((next : List Literal) × (after ≡ Some next) × (has next l ≡ true))
-Sees vars trail after Conflict = after ≡ None
+-- what a part of a search has logged: such lines
+abbrev pub LogsPart : ℕ → ℕ → ℕ → ℕ → ℕ → Logged → Logged → Option (List ℕ) → Option (List ℕ) → Type 0
+LogsPart vars forget deletions learned more old new w w' = AddsSuch (IsPart vars forget deletions learned more old.state new.state) old new w w'
 
--- the constraint of this id, if it is live, adds nothing
-abbrev pub IsQuiet : List Given → List Literal → ℕ → Type 0
-IsQuiet given trail id = (c : Bounded) → live_at given id ≡ Some c → AddsNothing trail (after_hint trail c)
+-- and where it failed: lines that a search may log, the last of them perhaps not whole
+abbrev pub LogsPartNot : ℕ → ℕ → ℕ → ℕ → Logged → Logged → Option (List ℕ) → Option (List ℕ) → LogError → Type 0
+LogsPartNot vars forget deletions most old new w w' e = LogsSuchNot (MayLog vars forget deletions most old.state new.state) old new w w' e
 
--- no live constraint adds anything
-abbrev pub IsSettled : List Given → List Literal → Type 0
-IsSettled given trail = (id : ℕ) → IsQuiet given trail id
+-- the number stands in the list
+abbrev pub contains : List ℕ → ℕ → Bool
+contains [] q = false
+contains (p ∷ ps) q = (p == q) || contains ps q
 
--- whether a constraint is in conflict, once all that it forces was added
-abbrev pub Settles : List Given → List Literal → ℕ → Bool → Type 0
-Settles given trail id true = IsConflict given trail id
-Settles given trail id false = IsQuiet given trail id
+-- no number stands there twice
+abbrev pub AreOnce : List ℕ → Type 0
+AreOnce [] = Unit {0}
+AreOnce (p ∷ ps) = (contains ps p ≡ false) × AreOnce ps
 
--- the trail has grown, or is as before, and follows
-pub record Extends (given : List Given) (old new : Trailed) : Type 0 where
-  pub vars : new.vars ≡ old.vars
-  pub follows : Follows given [] new.entries
-  pub longer : length old.entries ≤ length new.entries
-  pub same : length new.entries ≡ length old.entries → new ≡ old
+-- the id is that of a live learned clause
+abbrev pub IsLiveLearned : List Given → ℕ → Type 0
+IsLiveLearned given id = (entry : Given) × (c : Bounded) × (given_at given id ≡ Some entry) × (is_learned entry.origin ≡ true) × (entry.live ≡ Some c)
 
--- what a visit of the constraint with this id did
-abbrev pub Visited : List Given → ℕ → Trailed → Trailed → Effect → Type 0
-Visited given id old new effect.Quiet = (new ≡ old) × IsQuiet given (literals new.entries) id
-Visited given id old new effect.Forced = (length old.entries < length new.entries) × (length new.entries < 2 ^ 64)
-Visited given id old new effect.Conflict = IsConflict given (literals new.entries) id
+-- Ids of live learned clauses, each once.
+pub record AreHeld (given : List Given) (ids : List ℕ) : Type 0 where
+  pub learned : AllByRecursion (IsLiveLearned given) ids
+  pub once : AreOnce ids
+  pub count : length ids ≤ length (learned_live given)
 
--- the values that a list gives to the variables from 1 to a number
-pub record AreValuesOf (vars : ℕ) (lits : List Literal) (values : List Bool) : Type 0 where
-  pub count : length values ≡ vars
-  pub exact : (v : ℕ) → 1 ≤ v → v ≤ vars → value_of values v ≡ has lits (record { variable = v; positive = true })
+-- The constraints that were live at first are live, and none of them has one of these ids.
+pub record AreKept (first live : List Live) (ids : List ℕ) : Type 0 where
+  pub live_ : (id : ℕ) (c : Bounded) → live_in first id ≡ Some c → live_in live id ≡ Some c
+  pub others : AllByRecursion (λ id. live_in first id ≡ None) ids
 
--- The constraint with this id is one of these, the first of which has id 1, and does not hold.
-abbrev pub IsViolated : List Bool → List Bounded → ℕ → Type 0
-IsViolated values cs id = (k : ℕ) × (c : Bounded) × (id ≡ k + 1) × (slice_get cs k ≡ Some c) × (Holds values c → ⊥)
+-- the live constraints without those of these ids
+abbrev pub removed_all : List ℕ → List Live → List Live
+removed_all [] live = live
+removed_all (id ∷ ids) live = removed_all ids (removed id live)
 
--- what a test of an assignment says
-abbrev pub Judges : Problem → List Bool → Found → Type 0
-Judges f values (found.Model m) = Satisfies m f
-Judges f values (found.Conflict id) = IsViolated values f.constraints id
-
--- the constraints of the formula are the first that are given
-abbrev pub HasFile : Problem → List Given → Type 0
-HasFile f given = (more : List Given) × (given ≡ map from_file f.constraints ++ more)
-
--- what a search keeps: its trail follows, and the constraints of the formula are live under their ids
-pub record IsSearching (f : Problem) (s : ProofState) (t : Trailed) : Type 0 where
-  pub state : s.vars ≡ f.vars
-  pub vars : t.vars ≡ f.vars
-  pub file : HasFile f s.given
-  pub follows : Follows s.given [] t.entries
-
--- where a search without a choice left stands
-abbrev pub Finds : Problem → List Given → List Entry → Found → Type 0
-Finds f given entries (found.Model m) = Satisfies m f
-Finds f given entries (found.Conflict id) = IsConflict given (literals entries) id
-
--- the reasons of a trail, and behind them the conflict
-abbrev pub conflict_hints : List Entry → ℕ → List ℕ
-conflict_hints entries id = reasons entries ++ id ∷ []
-
--- the learned clause of a conflict, and the lemma that refutes where nothing was decided
-abbrev pub learned_line : List Entry → ℕ → Line
-learned_line entries id = Learned (clause (refuted_decisions entries)) (conflict_hints entries id)
-
-abbrev pub refuting_line : List Entry → ℕ → Line
-refuting_line entries id = Lemma (clause []) (conflict_hints entries id)
+-- The ids in two parts: those of the one are no reasons on the trail, and the rest. Each stands in one of them, once.
+pub record IsSplit (made : List Made) (ids out rest : List ℕ) : Type 0 where
+  pub free : AllByRecursion (IsNoReason made) out
+  pub out_in : (q : ℕ) → contains out q ≡ true → contains ids q ≡ true
+  pub rest_in : (q : ℕ) → contains rest q ≡ true → contains ids q ≡ true
+  pub apart : (q : ℕ) → contains out q ≡ true → contains rest q ≡ true → ⊥
+  pub out_once : AreOnce out
+  pub rest_once : AreOnce rest
+  pub count : length out + length rest ≡ length ids

@@ -81,15 +81,15 @@ check_complete formula proof text more answer told sound also (files.accepted f 
 check_complete formula proof text more answer told sound also (files.no_formula none same) =
     no_formula (Decides text more) formula text answer told sound (λ line why known. known) tt none
 
-solve_complete : (budget : ℕ) (formula : Change Source) (proof : Change Sink) (text : List ℕ) (answer : Answer) (told : Option (List ℕ)) → IsSound formula text → IsQuiet proof
-    → SolveRow budget formula proof answer told → Concludes text answer
-solve_complete budget formula proof text answer told sound quiet (files.accepted f accepts (solves.model values bytes writes holds)) = (f, spelled formula text f sound accepts)
-solve_complete budget formula proof text answer told sound quiet (files.accepted f accepts (solves.refuted bytes writes is_proof none)) = (f, spelled formula text f sound accepts)
-solve_complete budget formula proof text answer told sound quiet (files.accepted f accepts (solves.unknown bytes writes spent)) = (f, spelled formula text f sound accepts)
-solve_complete budget formula proof text answer told sound quiet (files.accepted f accepts (solves.no_memory front)) = tt
-solve_complete budget formula proof text answer told sound quiet (files.accepted f accepts (solves.fails rose front)) = no_rise _ _ quiet rose
-solve_complete budget formula proof text answer told sound quiet (files.no_formula none same) =
-    no_formula (Concludes text) formula text answer told sound (λ line why known. known) tt none
+solve_complete : (budget forget : ℕ) (formula : Change Source) (proof : Change Sink) (text : List ℕ) (answer : Answer) (told : Option (List ℕ)) → IsSound formula text → IsQuiet proof
+    → SolveRow budget forget formula proof answer told → Concludes budget forget text answer
+solve_complete budget forget formula proof text answer told sound quiet (files.accepted f accepts (solves.model values bytes writes holds)) = (f, spelled formula text f sound accepts)
+solve_complete budget forget formula proof text answer told sound quiet (files.accepted f accepts (solves.refuted bytes writes is_proof none)) = (f, spelled formula text f sound accepts)
+solve_complete budget forget formula proof text answer told sound quiet (files.accepted f accepts (solves.unknown bytes writes spent small)) = (f, spelled formula text f sound accepts, small)
+solve_complete budget forget formula proof text answer told sound quiet (files.accepted f accepts (solves.no_memory front)) = tt
+solve_complete budget forget formula proof text answer told sound quiet (files.accepted f accepts (solves.fails rose front)) = no_rise _ _ quiet rose
+solve_complete budget forget formula proof text answer told sound quiet (files.no_formula none same) =
+    no_formula (Concludes budget forget text) formula text answer told sound (λ line why known. known) tt none
 
 extract_complete : (formula : Change Source) (text : List ℕ) (answer : Answer) (told : Option (List ℕ)) → IsSound formula text → ExtractRow formula answer told → Extracted text answer
 extract_complete formula text answer told sound (files.accepted f accepts (extracts.done written is)) = (f, spelled formula text f sound accepts)
@@ -123,7 +123,7 @@ trim_complete formula proof text more answer told sound also (files.no_formula n
 -- whatever was told
 row_complete : (asked : Asked) (all : Files) (out : Change Sink) (answer : Answer) (told : Option (List ℕ)) → RowOf (Some asked) all answer told → CompleteOf asked all out answer
 row_complete (check f p) all out answer told row = λ text more sound also quiet. check_complete all.formula all.proof_in text more answer told sound also row
-row_complete (solve f p conflicts forget) all out answer told row = λ text sound proof_quiet quiet. solve_complete conflicts all.formula all.proof_out text answer told sound proof_quiet row
+row_complete (solve f p conflicts forget) all out answer told row = λ text sound proof_quiet quiet. solve_complete conflicts forget all.formula all.proof_out text answer told sound proof_quiet row
 row_complete (extract f) all out answer told row = λ text sound quiet. extract_complete all.formula text answer told sound row
 row_complete (convert f) all out answer told row = λ text sound quiet. convert_complete all.formula text answer told sound row
 row_complete (trim f p) all out answer told row = λ text more sound also quiet. trim_complete all.formula all.proof_in text more answer told sound also row

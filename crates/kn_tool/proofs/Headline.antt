@@ -46,13 +46,13 @@ abbrev GotText : Change Sink → Option (List ℕ) → Type 0
 GotText out None = Unit {0}
 GotText out (Some text) = Got out.old.written out.new.written text
 
-solve_headline : (budget : ℕ) (formula : Change Source) (proof out : Change Sink) (answer : Answer) (told : Option (List ℕ)) → GotText out told → SolveRow budget formula proof answer told → SolveHeadline budget formula proof out answer
-solve_headline budget formula proof out answer told got (files.accepted f accepts (solves.model values bytes writes holds)) = (f, values, accepts, holds, got)
-solve_headline budget formula proof out answer told got (files.accepted f accepts (solves.refuted bytes writes is_proof none)) = (f, bytes, accepts, writes.got, is_proof, none)
-solve_headline budget formula proof out answer told got (files.accepted f accepts (solves.unknown bytes writes spent)) = (refl, (f, bytes, accepts, writes.got, writes.steps, spent))
-solve_headline budget formula proof out answer told got (files.accepted f accepts (solves.no_memory front)) = tt
-solve_headline budget formula proof out answer told got (files.accepted f accepts (solves.fails rose front)) = tt
-solve_headline budget formula proof out answer told got (files.no_formula none same) = no_formula (SolveHeadline budget formula proof out) formula answer told (λ w. tt) (λ w. tt) tt (λ line why. tt) none
+solve_headline : (budget forget : ℕ) (formula : Change Source) (proof out : Change Sink) (answer : Answer) (told : Option (List ℕ)) → GotText out told → SolveRow budget forget formula proof answer told → SolveHeadline budget forget formula proof out answer
+solve_headline budget forget formula proof out answer told got (files.accepted f accepts (solves.model values bytes writes holds)) = (f, values, bytes, accepts, writes, holds, got)
+solve_headline budget forget formula proof out answer told got (files.accepted f accepts (solves.refuted bytes writes is_proof none)) = (f, bytes, accepts, writes, is_proof, none)
+solve_headline budget forget formula proof out answer told got (files.accepted f accepts (solves.unknown bytes writes spent small)) = (refl, (f, bytes, accepts, writes, spent))
+solve_headline budget forget formula proof out answer told got (files.accepted f accepts (solves.no_memory front)) = tt
+solve_headline budget forget formula proof out answer told got (files.accepted f accepts (solves.fails rose front)) = tt
+solve_headline budget forget formula proof out answer told got (files.no_formula none same) = no_formula (SolveHeadline budget forget formula proof out) formula answer told (λ w. tt) (λ w. tt) tt (λ line why. tt) none
 
 extract_headline : (formula : Change Source) (out : Change Sink) (answer : Answer) (told : Option (List ℕ)) → GotText out told → ExtractRow formula answer told → ExtractHeadline formula out answer
 extract_headline formula out answer told got (files.accepted f accepts (extracts.done text is)) = (f, text, accepts, is, got)
@@ -77,7 +77,7 @@ trim_headline formula proof out answer told got (files.no_formula none same) = n
 
 row_headline : (asked : Asked) (all : Files) (out : Change Sink) (answer : Answer) (told : Option (List ℕ)) → GotText out told → RowOf (Some asked) all answer told → HeadlineOf asked all out answer
 row_headline (check f p) all out answer told got row = check_headline all.formula all.proof_in answer told row
-row_headline (solve f p conflicts forget) all out answer told got row = solve_headline conflicts all.formula all.proof_out out answer told got row
+row_headline (solve f p conflicts forget) all out answer told got row = solve_headline conflicts forget all.formula all.proof_out out answer told got row
 row_headline (extract f) all out answer told got row = extract_headline all.formula out answer told got row
 row_headline (convert f) all out answer told got row = convert_headline all.formula out answer told got row
 row_headline (trim f p) all out answer told got row = trim_headline all.formula all.proof_in out answer told got row

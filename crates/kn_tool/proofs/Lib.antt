@@ -3,6 +3,7 @@ pub mod Options
 pub mod Shapes
 pub mod Replies
 pub mod Readings
+pub mod Reading
 pub mod Solved
 pub mod Limits
 pub mod Complete

@@ -3,6 +3,7 @@ pub mod Answers
 pub mod Changes
 pub mod Files
 pub mod Checks
+pub mod SolverProofs
 pub mod Solves
 pub mod Extracts
 pub mod Conversions

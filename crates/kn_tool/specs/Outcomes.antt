@@ -27,7 +27,7 @@ files_change formula proof_in proof_out = record { formula = formula; proof_in =
 abbrev pub RowOf : Option Asked → Files → Answer → Option (List ℕ) → Type 0
 RowOf None files answer told = (answer ≡ Usage) × (told ≡ Some usage_text)
 RowOf (Some (check formula proof)) files answer told = CheckRow files.formula files.proof_in answer told
-RowOf (Some (solve formula proof conflicts forget)) files answer told = SolveRow conflicts files.formula files.proof_out answer told
+RowOf (Some (solve formula proof conflicts forget)) files answer told = SolveRow conflicts forget files.formula files.proof_out answer told
 RowOf (Some (extract formula)) files answer told = ExtractRow files.formula answer told
 RowOf (Some (convert formula)) files answer told = ConvertRow files.formula answer told
 RowOf (Some (trim formula proof)) files answer told = TrimRow files.formula files.proof_in answer told
@@ -47,7 +47,7 @@ Tells words files out answer = (request : Option Asked) × AsksFor words request
 -- The headline: what an answer of a command promises.
 abbrev pub HeadlineOf : Asked → Files → Change Sink → Answer → Type 0
 HeadlineOf (check formula proof) files out answer = CheckHeadline files.formula files.proof_in answer
-HeadlineOf (solve formula proof conflicts forget) files out answer = SolveHeadline conflicts files.formula files.proof_out out answer
+HeadlineOf (solve formula proof conflicts forget) files out answer = SolveHeadline conflicts forget files.formula files.proof_out out answer
 HeadlineOf (extract formula) files out answer = ExtractHeadline files.formula out answer
 HeadlineOf (convert formula) files out answer = ConvertHeadline files.formula out answer
 HeadlineOf (trim formula proof) files out answer = TrimHeadline files.formula files.proof_in out answer
@@ -58,7 +58,7 @@ abbrev pub CompleteOf : Asked → Files → Change Sink → Answer → Type 0
 CompleteOf (check formula proof) files out answer =
     (text : List ℕ) (more : List ℕ) → IsSound files.formula text → IsSound files.proof_in more → IsQuiet out → Decides text more answer
 CompleteOf (solve formula proof conflicts forget) files out answer =
-    (text : List ℕ) → IsSound files.formula text → IsQuiet files.proof_out → IsQuiet out → Concludes text answer
+    (text : List ℕ) → IsSound files.formula text → IsQuiet files.proof_out → IsQuiet out → Concludes conflicts forget text answer
 CompleteOf (extract formula) files out answer =
     (text : List ℕ) → IsSound files.formula text → IsQuiet out → Extracted text answer
 CompleteOf (convert formula) files out answer =

@@ -13,7 +13,7 @@ use kn_bytes::{Sink, Source};
 use kn_format::write_model;
 use kn_log::{Log, LogError};
 use kn_logic::{Assignment, Formula, NoMemory};
-use kn_search::{Options, Outcome, SearchError, search};
+use kn_search::{Options, Outcome, SearchError, engine_of, search};
 use std::alloc::Global;
 
 /// The reply of `solve`: the formula is read and understood, then searched; each line of the proof is written as
@@ -24,7 +24,7 @@ pub fn solve_file<F: Source, P: Sink>(
     proof: &mut P,
     options: Options,
 ) -> Reply
-    ensures reply { IsReply (SolveRow options.conflicts
+    ensures reply { IsReply (SolveRow options.conflicts options.forget
         (source_change F.Source formula.old formula.new) (sink_change P.Sink proof.old proof.new)) result }
     ensures later_formula { F.faults formula.old ≤ F.faults formula.new }
     ensures later_proof { P.faults proof.old ≤ P.faults proof.new }
@@ -38,7 +38,7 @@ pub fn solve_file<F: Source, P: Sink>(
 fn solve_formula<P: Sink>(alloc: Global, f: &Formula, proof: &mut P, options: Options) -> Reply
     requires vars { f.now.vars ≤ 2 ^ 32 }
     requires formula { IsFormula f.now }
-    ensures reply { IsReply (SolvedRow options.conflicts (sink_change P.Sink proof.old proof.new) f.now) result }
+    ensures reply { IsReply (SolvedRow options.conflicts options.forget (sink_change P.Sink proof.old proof.new) f.now) result }
     ensures later { P.faults proof.old ≤ P.faults proof.new }
 {
     match search_formula(alloc, f, proof, options) {
@@ -55,8 +55,8 @@ fn search_formula<P: Sink>(
     options: Options,
 ) -> Result<Outcome, Answer>
     requires { f.now.vars ≤ 2 ^ 32 }
-    ensures found { IfOk result (Finds options.conflicts f.now (sink_change P.Sink proof.old proof.new)) }
-    ensures err { IfErr result (λ answer. SolvedRow options.conflicts (sink_change P.Sink proof.old proof.new) f.now answer None) }
+    ensures found { IfOk result (Finds options.conflicts options.forget f.now (sink_change P.Sink proof.old proof.new)) }
+    ensures err { IfErr result (λ answer. SolvedRow options.conflicts options.forget (sink_change P.Sink proof.old proof.new) f.now answer None) }
     ensures later { P.faults proof.old ≤ P.faults proof.new }
 {
     let mut log = match Log::new(alloc, f, proof) {
@@ -64,7 +64,10 @@ fn search_formula<P: Sink>(
         Err(LogError::Memory) => return Err(Answer::NoMemory),
         Err(LogError::Fault) => return Err(PROOF_FAULT),
     };
-    match search(alloc, f, &mut log, proof, &options) {
+    let Ok(mut engine) = engine_of(alloc, f) else {
+        return Err(Answer::NoMemory);
+    };
+    match search(alloc, &mut engine, &mut log, proof, &options) {
         Ok(outcome) => Ok(outcome),
         Err(SearchError::Memory) => Err(Answer::NoMemory),
         Err(SearchError::WriteFault) => Err(PROOF_FAULT),
