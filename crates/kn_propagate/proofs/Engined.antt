@@ -1,6 +1,6 @@
 -- The engine as a whole after each of its calls.
 use Rattle.std.proofs.Common.{◌≡◌, ◌≢◌, ℕ, zero, suc, ◌≤◌, ◌<◌, ◌++◌, eqb, cond, List, [], ◌∷◌, Option, Some, None, length, refl, sym, ap, ◌∙◌, subst, inl, inr, arith}
-use Rattle.std.specs.Prelude.{IfSome, IfNone, slice_set}
+use Rattle.std.specs.Prelude.{IfNone, slice_set}
 use Rattle.kn_logic.specs.Constraints.{Bounded}
 use Rattle.kn_watch.specs.declared.trail.Made.{Made}
 use Rattle.kn_watch.specs.Trails.{Trailed, literals}

@@ -38,10 +38,10 @@ guard_few : (trail : List Literal) (lits : List Literal) (bound : ℕ) (guard : 
 guard_few trail lits bound None lt = omega (arith, lt)
 guard_few trail lits bound (Some g) lt = omega (arith, lt, one_more (is_open trail (negated g)))
 
-conflict_few : (trail : List Literal) (c : Bounded) → IsConflicting trail c → open_places trail (listed c) ≤ c.bound
+pub conflict_few : (trail : List Literal) (c : Bounded) → IsConflicting trail c → open_places trail (listed c) ≤ c.bound
 conflict_few trail c k = omega (arith, open_append trail c.lits (unguarded c.guard), guard_few trail c.lits c.bound c.guard k.0)
 
-forcing_few : (trail : List Literal) (c : Bounded) → IsForcing trail c → open_places trail (listed c) ≤ c.bound
+pub forcing_few : (trail : List Literal) (c : Bounded) → IsForcing trail c → open_places trail (listed c) ≤ c.bound
 forcing_few trail c f = elim (f.2.1) [
   | inl o ↦ omega (arith, open_append trail c.lits (unguarded c.guard), bound_few trail c.lits c.bound c.guard (omega (arith, o.1)) o.2)
   | inr o ↦ omega (arith, open_append trail c.lits (unguarded c.guard), guard_few trail c.lits c.bound c.guard o.1)

@@ -12,7 +12,7 @@ use Rattle.kn_watch.specs.declared.trail.Made.{Made}
 use Rattle.kn_propagate.specs.declared.chains.Spot.{Spot}
 use Rattle.kn_watch.specs.Trails.{Trailed, literals, below, lit_of, IsRising, IsTrail}
 use Rattle.kn_watch.specs.Watches.{listed, unguarded, lit_at, IsSatisfied}
-use Rattle.kn_propagate.specs.Chains.{Watching, at_slot, lit_of_spot, code, Goes, IsDrawn, hand_of, IsWired, IsWalking, IsStopped, IsGrown, IsFresh, AreSame, IsIdle, with_home, count_from}
+use Rattle.kn_propagate.specs.Chains.{Watching, at_slot, lit_of_spot, code, Goes, IsDrawn, hand_of, IsWired, IsWalking, IsStopped, IsGrown, IsFresh, AreSame, with_home, count_from}
 use Rattle.kn_watch.proofs.Public.{Within}
 use Rattle.kn_propagate.proofs.Relinking.{a_spot, relaid}
 use Rattle.kn_watch.proofs.Public.{IsTop, rising_top, below_grown, all_within_grown}

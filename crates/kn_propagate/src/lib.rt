@@ -10,6 +10,8 @@ mod inserting;
 mod settling;
 mod slot;
 mod step;
+#[cfg(test)]
+mod tests;
 mod visiting;
 mod walking;
 

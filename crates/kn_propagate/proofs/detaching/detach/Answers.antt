@@ -1,10 +1,13 @@
-use Rattle.std.proofs.Common.{◌≡◌, ℕ, List, length, sym, ap, ◌∙◌, arith}
+use Rattle.std.proofs.Common.{◌≡◌, ◌≤◌, ℕ, List, length, sym, ap, ◌∙◌, subst, arith}
 use Rattle.kn_logic.specs.Literals.{Literal}
 use Rattle.kn_watch.specs.Watches.{listed}
-use Rattle.kn_propagate.specs.Chains.{Watching, seen_as, at_slot, cut}
+use Rattle.kn_propagate.specs.Chains.{Watching, seen_as, at_slot, cut, IsStill}
 use Rattle.kn_propagate.proofs.Turning.{length-seen, seen_here}
 use Rattle.kn_propagate.proofs.Adding.{agrees_back, still_agrees, cut_whole}
 use Rattle.kn_propagate.proofs.detaching.detach.Goals as goal
+
+none_left : (place : ℕ) → place ≤ 0 → place ≡ 0
+none_left place le = omega (arith, le)
 
 pub loop-place-init : goal.loop-place-init
 loop-place-init g c =
@@ -21,3 +24,8 @@ loop-place-init g c =
       still = still_agrees ws (cut ws c.args.owner count) c.args.chains.now (agrees_back (cut ws c.args.owner count) ws (cut_whole ws c.args.owner count c.requires.owner long)) c.requires.still;
       spare = c.requires.spare;
     }
+
+pub returns-clause-still : goal.returns-clause-still
+returns-clause-still g c =
+    let ws = seen_as g.W.Watched.bounded g.W.Watched.watches c.args.slots.now.items in
+    subst (λ (n : ℕ). IsStill (cut ws c.args.owner n) c.loop-place.chains) (none_left c.loop-place.place c.loop-place-test.false) c.loop-place.invariant.still

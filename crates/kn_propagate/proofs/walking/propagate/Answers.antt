@@ -1,4 +1,4 @@
-use Rattle.std.proofs.Common.{◌≡◌, ℕ, ◌<◌, ◌+◌, ◌*◌, List, length, take, sym, ap, ◌∙◌, subst, arith}
+use Rattle.std.proofs.Common.{◌≡◌, ℕ, ◌<◌, ◌≤◌, ◌+◌, ◌*◌, List, length, take, sym, ap, ◌∙◌, subst, arith}
 use Rattle.std.specs.Prelude.{slice_index_or, slice_set}
 use Rattle.kn_logic.specs.Literals.{negated}
 use Rattle.kn_watch.specs.Trails.{literals, lit_of}
@@ -88,3 +88,8 @@ loop-visited-preserved g c =
       fresh = fresh_next c.loop-visited.trail c.walk.new.trail c.loop-visited.visited inv.fresh after.present lt;
       idle = record { from = (code (negated (lit_of c.loop-visited.trail.made c.loop-visited.visited))); stopped = after.done; empty = after.empty };
     }
+
+pub returns-clause-all : goal.returns-clause-all
+returns-clause-all g c =
+    let done : c.len.result ≤ c.loop-visited.visited = c.loop-visited-test.false in
+    subst (λ (n : ℕ). n ≤ c.loop-visited.visited) c.len.ensures.value done

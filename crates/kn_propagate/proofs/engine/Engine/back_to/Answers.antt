@@ -1,6 +1,5 @@
-use Rattle.std.proofs.Common.{◌≡◌, ◌≤◌, ℕ, min, Option, length, sym, ap, subst, arith}
+use Rattle.std.proofs.Common.{◌∙◌, ◌≡◌, ◌≤◌, ℕ, min, Option, length, sym, ap, subst}
 use Rattle.std.specs.Prelude.{nat_eq}
-use Rattle.std.proofs.lemmas.Grind.{common_steps}
 use Rattle.indexmap.specs.IndexMap.{get}
 use Rattle.kn_watch.specs.Trails.{Trailed}
 use Rattle.kn_propagate.specs.declared.step.Step.{Step}
@@ -15,7 +14,7 @@ pub invariant_of-self : goal.invariant_of-self
 invariant_of-self g c =
     let same : c.self.inside.trail ≡ c.args.self.now.trail = ap (λ (x : Engined). x.trail) c.self.view_is in
     let le : c.args.level ≤ c.self.inside.trail.level = subst (λ (x : Trailed). c.args.level ≤ x.level) (sym same) c.requires in
-    let now : c.min-self-inside.result ≡ min c.self.inside.visited (length c.back_to.new.self.made) = grind (arith, common_steps, c.min-self-inside.ensures, c.len.ensures.value) in
+    let now : c.min-self-inside.result ≡ min c.self.inside.visited (length c.back_to.new.self.made) = c.min-self-inside.ensures ∙ ap (min c.self.inside.visited) c.len.ensures.value in
     let ws = seen_as (held_bounded g.C.Watched.bounded g.K.Watched.bounded) (held_watches g.C.Watched.watches g.K.Watched.watches) c.self.inside.slots.items in
     let find : ℕ → Option ℕ = get nat_eq c.self.inside.index in
     let back = whole_back c.self.inside.trail c.back_to.new.self ws c.self.inside.chains c.self.inside.visited c.min-self-inside.result c.args.level c.self.inside.last c.self.inside.pending.items find c.self.invariant le c.back_to.ensures.made c.back_to.ensures.front c.back_to.ensures.kept now in
@@ -26,7 +25,7 @@ pub returns-clause-kept : goal.returns-clause-kept
 returns-clause-kept g c =
     let same : c.self.inside.trail ≡ c.args.self.now.trail = ap (λ (x : Engined). x.trail) c.self.view_is in
     let le : c.args.level ≤ c.self.inside.trail.level = subst (λ (x : Trailed). c.args.level ≤ x.level) (sym same) c.requires in
-    let now : c.min-self-inside.result ≡ min c.self.inside.visited (length c.back_to.new.self.made) = grind (arith, common_steps, c.min-self-inside.ensures, c.len.ensures.value) in
+    let now : c.min-self-inside.result ≡ min c.self.inside.visited (length c.back_to.new.self.made) = c.min-self-inside.ensures ∙ ap (min c.self.inside.visited) c.len.ensures.value in
     let ws = seen_as (held_bounded g.C.Watched.bounded g.K.Watched.bounded) (held_watches g.C.Watched.watches g.K.Watched.watches) c.self.inside.slots.items in
     let find : ℕ → Option ℕ = get nat_eq c.self.inside.index in
     let back = whole_back c.self.inside.trail c.back_to.new.self ws c.self.inside.chains c.self.inside.visited c.min-self-inside.result c.args.level c.self.inside.last c.self.inside.pending.items find c.self.invariant le c.back_to.ensures.made c.back_to.ensures.front c.back_to.ensures.kept now in
