@@ -20,3 +20,5 @@ pub mod ReducedLemmas
 pub mod StageLemmas
 pub mod GridLemmas
 pub mod CountLemmas
+pub mod KnownLemmas
+pub mod MakingLemmas

@@ -9,10 +9,12 @@ mod lemmas;
 mod name;
 mod named;
 mod naming;
+mod noted;
 mod pairs;
 mod quantified;
 mod settling;
 mod side;
+mod stages;
 mod units;
 
 pub use clauses::clause_unit;
