@@ -66,3 +66,7 @@ accounted-there d variable halves before (m ∷ ms) h =
 pub on-ok : {T E : Type 0} (r : Result T E) (P Q : Type 0) → OnOk r P → (P → Q) → OnOk r Q
 on-ok (Ok x) P Q h f = f h
 on-ok (Err e) P Q h f = tt
+
+pub always-ok : {T E : Type 0} (r : Result T E) (P : Type 0) → P → OnOk r P
+always-ok (Ok x) P h = h
+always-ok (Err e) P h = tt
