@@ -20,6 +20,8 @@ pub mod ReducedLemmas
 pub mod StageLemmas
 pub mod GridLemmas
 pub mod CountLemmas
+pub mod KnownLemmas
+pub mod MakingLemmas
 pub mod PairIdLemmas
 pub mod PairLineLemmas
 pub mod PairGridLemmas

@@ -1,5 +1,5 @@
 -- What a justification of an elimination goes on from.
-use Rattle.std.specs.Prelude.{ℕ, ◌≡◌, ◌≤◌, ◌<◌, ◌↔◌, Bool, true, List, [], ◌∷◌, length, map, reverse, nat_eq, slice_get, Option, Some}
+use Rattle.std.specs.Prelude.{ℕ, ◌≡◌, ◌≤◌, ◌<◌, ◌↔◌, ◌⊎◌, ◌++◌, Bool, true, List, [], ◌∷◌, length, reverse, take, nat_eq, slice_get, Option, Some, None}
 use Rattle.std.specs.List.{AllByRecursion, list_any}
 use Rattle.std.specs.Option.{is_some}
 use Rattle.std.specs.Map.{lookup}
@@ -80,3 +80,12 @@ IsNext given d cs ids units (Exists variable from node met halves) = IsExists d 
 -- each node of a stage has its unit
 abbrev pub AreMade : List (ℕ × Option ℕ) → List Stage → Type 0
 AreMade units stages = AllByRecursion (λ s. has_unit units (node_of s) ≡ true) stages
+
+-- each stage has what its unit is made of, as soon as those before it have theirs
+abbrev pub AreMadeInTurn : List Given → Table → List Bounded → List ℕ → List Stage → Type 0
+AreMadeInTurn given d cs ids stages =
+    (place : ℕ) (s : Stage) (units : List (ℕ × Option ℕ)) → slice_get stages place ≡ Some s → AreMade units (take place stages) → IsNext given d cs ids units s
+
+-- A node's unit was noted, unless there was one.
+abbrev pub IsNoted : ℕ → Option ℕ → List (ℕ × Option ℕ) → List (ℕ × Option ℕ) → Type 0
+IsNoted node id old new = ((has_unit old node ≡ true) × (new ≡ old)) ⊎ ((unit_of old node ≡ None) × (new ≡ old ++ (node, id) ∷ []))

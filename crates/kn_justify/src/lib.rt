@@ -10,12 +10,14 @@ mod lemmas;
 mod name;
 mod named;
 mod naming;
+mod noted;
 mod pair_groups;
 mod pair_ids;
 mod pairs;
 mod quantified;
 mod settling;
 mod side;
+mod stages;
 mod units;
 
 pub use clauses::clause_unit;
