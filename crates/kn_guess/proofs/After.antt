@@ -14,7 +14,7 @@ use Rattle.kn_store.specs.Stores.{Numbered, Stored, IsStored, constraints_of, ch
 use Rattle.kn_store.proofs.Public.{all-one, all-two, from-map, to-map}
 use Rattle.kn_guess.specs.Guesses.{in_klause, in_binary, share, stands, is_seed, IsClosedFrom, IsLeastFrom, touches, is_border, IsSeedGuess}
 use Rattle.kn_guess.specs.Seen.{IsSeen}
-use Rattle.kn_guess.specs.Flags.{lowered}
+use Rattle.kn_guess.specs.Flags.{lowered, cleared}
 use Rattle.kn_guess.specs.Tables.{SeedTable, in_some, IsNear, IsSeedTable, replaced}
 use Rattle.kn_guess.proofs.Elements.{bool-same, and-both, not-true, false-not, any-with, each-any, any-map, any-filter, any-alike}
 use Rattle.kn_guess.proofs.Lives.{clause-named}
@@ -374,3 +374,44 @@ table-taken s seed bound g ids t u stored h guess low counted from-is entries-is
     not-or : (a b : Bool) → not (a || b) ≡ (not a && not b)
     not-or true b = refl
     not-or false b = refl
+
+-- and by place
+clear-one : (flags : List Bool) (v k : ℕ) → get_or (set flags v false) k false ≡ (get_or flags k false && not (v == k))
+clear-one flags v k = at (v == k) refl
+  where
+    and-true : (b : Bool) → (b && true) ≡ b
+    and-true true = refl
+    and-true false = refl
+
+    and-false : (b : Bool) → (b && false) ≡ false
+    and-false true = refl
+    and-false false = refl
+
+    at : (t : Bool) → (v == k) ≡ t → get_or (set flags v false) k false ≡ (get_or flags k false && not t)
+    at true e = ap (λ z. get_or (set flags z false) k false) (eqb-true v k e) ∙ elim (cases_lt k (length flags)) [
+      | inl in' ↦ get_or-set_same flags k false false in'
+      | inr out ↦ get_or_past (set flags k false) k false (let n = length-set flags k false in omega (arith, n, out))
+    ] ∙ sym (and-false (get_or flags k false))
+    at false e = get_or-set_other flags v k false false (λ s. eqb-false v k e (sym s)) ∙ sym (and-true (get_or flags k false))
+
+cleared-is : (flags : List Bool) (vs : List ℕ) (k : ℕ) → get_or (cleared flags vs) k false ≡ (get_or flags k false && not (is_among vs k))
+cleared-is flags [] k = sym (and-true (get_or flags k false))
+  where
+    and-true : (b : Bool) → (b && true) ≡ b
+    and-true true = refl
+    and-true false = refl
+cleared-is flags (v ∷ vs) k = cleared-is (set flags v false) vs k ∙ ap (λ b. b && not (is_among vs k)) (clear-one flags v k) ∙ both (get_or flags k false) (v == k) (is_among vs k)
+  where
+    both : (a b c : Bool) → ((a && not b) && not c) ≡ (a && not (b || c))
+    both true true c = refl
+    both true false c = refl
+    both false b c = refl
+
+-- the flags of the variables that are there, and no others, are up: so none is left
+pub all-cleared : (flags new : List Bool) (vars asked : List ℕ) → ((v : ℕ) → get_or flags v false ≡ is_among vars v) → asked ≡ vars → new ≡ cleared flags asked → (v : ℕ) → get_or new v false ≡ false
+all-cleared flags new vars asked up was is v =
+    ap (λ z. get_or z v false) (is ∙ ap (cleared flags) was) ∙ cleared-is flags vars v ∙ ap (λ b. b && not (is_among vars v)) (up v) ∙ neither (is_among vars v)
+  where
+    neither : (b : Bool) → (b && not b) ≡ false
+    neither true = refl
+    neither false = refl

@@ -12,6 +12,11 @@ abbrev pub lowered : List Bool → List ℕ → List Bool
 lowered flags [] = flags
 lowered flags (v ∷ vs) = lowered (slice_set flags (v - 1) false) vs
 
+-- the flags at these places are taken down
+abbrev pub cleared : List Bool → List ℕ → List Bool
+cleared flags [] = flags
+cleared flags (v ∷ vs) = cleared (slice_set flags v false) vs
+
 -- why a literal of a constraint marks its variable
 abbrev pub marks : Mark → Bounded → Literal → Bool
 marks Klause c l = not (is_clause c)

@@ -7,7 +7,7 @@ use Rattle.kn_logic.specs.Literals.{Literal, names, IsKnown}
 use Rattle.kn_logic.specs.Constraints.{Bounded, named}
 use Rattle.kn_logic.specs.Groups.{is_pair_of, has_pair}
 use Rattle.kn_store.specs.Stores.{Numbered, Stored, constraints_of, constraint_at}
-use Rattle.kn_guess.specs.Guesses.{in_klause, share, is_seed, candidates}
+use Rattle.kn_guess.specs.Guesses.{in_klause, share, is_seed, IsLeastFrom, candidates}
 use Rattle.kn_guess.specs.Seen.{IsSeen}
 use Rattle.kn_guess.specs.Walks.{kept, is_near}
 
@@ -35,6 +35,13 @@ pub record IsNear (s : Stored) (from : ℕ) (entries members : List (List ℕ)) 
   pub placed : (x : ℕ) → 1 ≤ x → AllByRecursion (λ k. k < length members) (kept entries (x - 1))
   pub sound : (x z : ℕ) → 1 ≤ x → in_klause (constraints_of s.live) x ≡ false → in_some (constraints_of s.live) x ≡ true → is_near members (kept entries (x - 1)) z ≡ true → share (constraints_of s.live) x z ≡ true
   pub complete : (x z : ℕ) → 1 ≤ x → in_klause (constraints_of s.live) x ≡ false → from < z → in_klause (constraints_of s.live) z ≡ false → share (constraints_of s.live) x z ≡ true → is_near members (kept entries (x - 1)) z ≡ true
+
+-- the least set of a seed, where it has at most 256 variables
+pub record IsLeastSet (s : Stored) (seed : ℕ) (set : List ℕ) : Type 0 where
+  pub least : IsLeastFrom (constraints_of s.live) seed set
+  pub known : AllByRecursion (λ x. (1 ≤ x) × (x ≤ s.vars)) set
+  pub alone : AllByRecursion (λ x. in_klause (constraints_of s.live) x ≡ false) set
+  pub few : length set ≤ 256
 
 -- A table that tells the seeds of a store and their neighbours.
 pub record IsSeedTable (s : Stored) (t : SeedTable) : Type 0 where

@@ -9,6 +9,7 @@ ghost use Rattle.kn_guess.specs.Refusals.{IsBorderRefused};
 ghost use Rattle.kn_guess.specs.Sides.{first_in_both, sided};
 
 use crate::NoGuess;
+use crate::flag_set::FlagSet;
 use crate::growing::{MOST_BORDER, side};
 use crate::taking::ascending;
 use crate::var_set::VarSet;
@@ -23,7 +24,7 @@ pub(crate) const LEAST_BORDER: usize = 3;
 pub(crate) fn border(
     alloc: Global,
     store: &Store,
-    set: &VarSet,
+    set: &FlagSet,
     aux: &[u64],
 ) -> Result<Vec<Lit>, NoGuess>
     requires stored { IsStored store.now }

@@ -3,12 +3,13 @@ ghost use Rattle.std.specs.Prelude.{◌≡◌, ◌≤◌, ◌<◌, [], length, t
 ghost use Rattle.kn_logic.specs.Constraints.{Fits};
 ghost use Rattle.kn_store.specs.Stores.{IsStored, constraints_of};
 ghost use Rattle.kn_guess.specs.Guesses.{in_klause, is_seed, IsLeastFrom};
-ghost use Rattle.kn_guess.specs.Tables.{IsNear};
+ghost use Rattle.kn_guess.specs.Tables.{IsNear, IsLeastSet};
 ghost use Rattle.kn_guess.specs.Refusals.{AreApart, IsTooMany};
 ghost use Rattle.kn_guess.specs.Growing.{with_lits, with_ids, with_members, outside_key};
 ghost use Rattle.kn_guess.specs.Seen.{IsSeen};
 ghost use Rattle.std.specs.List.{AllByRecursion};
 
+use crate::flag_set::FlagSet;
 use crate::numbers::Numbers;
 use crate::pick::{Later, Outside, Pick};
 use crate::var_set::VarSet;
@@ -23,51 +24,43 @@ pub(crate) const MOST_AUX: usize = 256;
 /// The greatest number of border variables.
 pub(crate) const MOST_BORDER: usize = 128;
 
-// The least set of a seed: `None` exactly where it has more members than its limit.
+// The least set of a seed; false exactly where it has more members than its limit. `met` is room for a walk.
 pub(crate) fn least(
-    alloc: Global,
     store: &Store,
     entries: &mut Vec<Numbers>,
     members: &mut Vec<Numbers>,
+    set: &mut FlagSet,
+    met: &mut FlagSet,
     later: &Later,
-) -> Result<Option<VarSet>, NoMemory>
+) -> Result<bool, NoMemory>
     requires first { 1 ≤ later.now.seed }
     requires last { later.now.seed ≤ store.now.vars }
     requires seen { IsSeen store.now later.now.free.now }
     requires seed { is_seed (constraints_of store.now.live) later.now.seed ≡ true }
     requires near { IsNear store.now later.now.seed entries.old.items members.old.items }
     ensures near { IsNear store.now later.now.seed entries.new.items members.new.items }
-    ensures least { IfOk result (λ o. IfSome o (IsLeastFrom (constraints_of store.now.live) later.now.seed)) }
-    ensures known { IfOk result (λ o. IfSome o (AllByRecursion (λ x. (1 ≤ x) × (x ≤ store.now.vars)))) }
-    ensures alone { IfOk result (λ o. IfSome o (AllByRecursion (λ x. in_klause (constraints_of store.now.live) x ≡ false))) }
-    ensures few { IfOk result (λ o. IfSome o (λ set. AreApart set × (length set ≤ 256))) }
-    ensures many { IfOk result (λ o. IfNone o (IsTooMany (constraints_of store.now.live) later.now.seed)) }
+    ensures few { IfOk result (λ few. few ≡ true → IsLeastSet store.now later.now.seed set.new) }
+    ensures many { IfOk result (λ few. few ≡ false → IsTooMany (constraints_of store.now.live) later.now.seed) }
 {
     let _vars = store.vars();
-    let mut set = VarSet::new(alloc);
+    set.clear();
     set.insert(later.seed)?;
     let mut at = 0;
     while let Some(member) = set.get(at) {
-        walk(
-            alloc,
-            &mut entries[member as usize - 1],
-            members,
-            &mut set,
-            later,
-        )?;
+        walk(&mut entries[member as usize - 1], members, set, met, later)?;
         if set.len() > MOST_AUX {
-            return Ok(None);
+            return Ok(false);
         }
         at += 1;
     }
-    Ok(Some(set))
+    Ok(true)
 }
 
 // The variables outside the set that stand in one polarity in the constraints of its members.
 pub(crate) fn side(
     alloc: Global,
     store: &Store,
-    set: &VarSet,
+    set: &FlagSet,
     members: &[u64],
     positive: bool,
 ) -> Result<VarSet, NoMemory>

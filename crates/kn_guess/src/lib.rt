@@ -7,6 +7,7 @@ mod binary;
 mod border;
 mod covering;
 mod error;
+mod flag_set;
 mod flags;
 mod growing;
 mod guess;

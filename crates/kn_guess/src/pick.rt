@@ -4,7 +4,7 @@ ghost use Rattle.kn_logic.specs.Literals.{Literal};
 ghost use Rattle.kn_guess.specs.Growing.{outside_key};
 ghost use Rattle.kn_guess.specs.Walks.{is_later};
 
-use crate::var_set::VarSet;
+use crate::flag_set::FlagSet;
 use kn_logic::Lit;
 
 pub(crate) trait Pick {
@@ -32,7 +32,7 @@ impl Later<'_> {
 // Variables outside a set, in one polarity.
 #[derive(Drop)]
 pub(crate) struct Outside<'a> {
-    pub(crate) set: &'a VarSet,
+    pub(crate) set: &'a FlagSet,
     pub(crate) positive: bool,
 }
 

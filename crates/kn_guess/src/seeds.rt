@@ -6,9 +6,10 @@ ghost use Rattle.kn_store.specs.Stores.{Stored, IsStored, constraints_of, ids_of
 ghost use Rattle.kn_guess.specs.Guesses.{in_klause, is_seed, touches, IsBorder, IsSeedGuess};
 ghost use Rattle.kn_guess.specs.Refusals.{IsRefused};
 ghost use Rattle.kn_guess.specs.Seen.{IsSeen};
-ghost use Rattle.kn_guess.specs.Tables.{SeedTable, IsNear, IsSeedTable, replaced};
+ghost use Rattle.kn_guess.specs.Tables.{SeedTable, IsLeastSet, IsSeedTable, replaced};
 
 use crate::border::border;
+use crate::flag_set::FlagSet;
 use crate::flags::Flags;
 use crate::growing::least;
 use crate::marks::{free, seeds};
@@ -45,6 +46,8 @@ pub struct Seeds {
     seeds: Flags,
     entries: Vec<Numbers>,
     members: Vec<Numbers>,
+    set: FlagSet,
+    met: FlagSet,
 }
 
 impl Model for Seeds {
@@ -69,6 +72,8 @@ impl Seeds {
             free,
             entries: entries(alloc, store)?,
             members,
+            set: FlagSet::new(alloc),
+            met: FlagSet::new(alloc),
         })
     }
 
@@ -92,7 +97,17 @@ impl Seeds {
             seed,
             free: self.free.all(),
         };
-        seed_guess(alloc, store, &mut self.entries, &mut self.members, &later)
+        if !least(
+            store,
+            &mut self.entries,
+            &mut self.members,
+            &mut self.set,
+            &mut self.met,
+            &later,
+        )? {
+            return Err(NoGuess::TooMany);
+        }
+        bordered(alloc, store, &self.set, seed)
     }
 
     /// The group was taken out of the store, and its klause has come.
@@ -106,28 +121,16 @@ impl Seeds {
     }
 }
 
-fn seed_guess(
-    alloc: Global,
-    store: &Store,
-    entries: &mut Vec<Numbers>,
-    members: &mut Vec<Numbers>,
-    later: &Later,
-) -> Result<Guess, NoGuess>
-    requires first { 1 ≤ later.now.seed }
-    requires last { later.now.seed ≤ store.now.vars }
-    requires seed { is_seed (constraints_of store.now.live) later.now.seed ≡ true }
-    requires seen { IsSeen store.now later.now.free.now }
+// The guess of a seed with this least set.
+fn bordered(alloc: Global, store: &Store, set: &FlagSet, seed: u64) -> Result<Guess, NoGuess>
+    requires seed { is_seed (constraints_of store.now.live) seed ≡ true }
     requires stored { IsStored store.now }
-    requires near { IsNear store.now later.now.seed entries.old.items members.old.items }
-    ensures near { IsNear store.now later.now.seed entries.new.items members.new.items }
-    ensures guess { IfOk result (λ g. IsSeedGuess store.now later.now.seed g.group g.ids) }
-    ensures refused { IfErr result (IsRefused (constraints_of store.now.live) later.now.seed) }
+    requires set { IsLeastSet store.now seed set.now }
+    ensures guess { IfOk result (λ g. IsSeedGuess store.now seed g.group g.ids) }
+    ensures refused { IfErr result (IsRefused (constraints_of store.now.live) seed) }
 {
-    let Some(set) = least(alloc, store, entries, members, later)? else {
-        return Err(NoGuess::TooMany);
-    };
     let aux = ascending(Vec::from_slice(alloc, set.vars())?);
-    match border(alloc, store, &set, &aux) {
+    match border(alloc, store, set, &aux) {
         Ok(border) => Ok(taken(alloc, store, aux, border)?),
         Err(why) => Err(why),
     }

@@ -213,7 +213,10 @@ fn guesses_keep_their_limits(rt: HostRuntime) -> Result<(), Fail> {
     ];
     for (border, want) in cases {
         let s = star(rt.alloc(), border)?;
-        assert!(rt; sizes(rt.alloc(), &s, u64::from(border) + 1) == want, "border {border}");
+        assert!(rt;
+            sizes(rt.alloc(), &s, u64::from(border) + 1) == want,
+            "border {border}"
+        );
     }
     for (size, want) in [(2, 0), (3, 3), (256, 256), (257, 256)] {
         let s = clique(rt.alloc(), size)?;
@@ -240,7 +243,10 @@ fn starts_are_guessed(rt: HostRuntime) -> Result<(), Fail> {
     assert!(rt; g.group().aux().is_empty() && g.group().border() == border.as_slice());
     assert!(rt; g.ids() == [1, 2, 3, 4].as_slice() && g.group().taken().len() == 4);
     for start in [0, 5, 6] {
-        assert!(rt; pairs.guess(rt.alloc(), &s, start)?.is_none(), "start {start}");
+        assert!(rt;
+            pairs.guess(rt.alloc(), &s, start)?.is_none(),
+            "start {start}"
+        );
     }
     Ok(())
 }

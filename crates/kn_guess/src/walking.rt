@@ -6,19 +6,19 @@ ghost use Rattle.indexmap.specs.IndexSet.{insert_key};
 ghost use Rattle.kn_logic.specs.Groups.{is_among};
 ghost use Rattle.kn_guess.specs.Walks.{is_later, is_near, Thins, AllThin, Grows, HasAll, IsWithin};
 
+use crate::flag_set::FlagSet;
 use crate::growing::MOST_AUX;
 use crate::numbers::Numbers;
 use crate::pick::Later;
-use crate::var_set::VarSet;
 use kn_logic::NoMemory;
-use std::alloc::Global;
 
-// The later variables in the clauses of these ids join a set, until it has more members than its limit.
+// The later variables in the clauses of these ids join a set, until it has more members than its limit. `met` is
+// room for those that the walk has met.
 pub(crate) fn walk(
-    alloc: Global,
     ids: &mut Numbers,
     members: &mut Vec<Numbers>,
-    set: &mut VarSet,
+    set: &mut FlagSet,
+    met: &mut FlagSet,
     later: &Later,
 ) -> Result<(), NoMemory>
     requires placed { AllByRecursion (λ k. k < length members.old.items) ids.old }
@@ -29,12 +29,12 @@ pub(crate) fn walk(
     ensures set { OnOk result (Grows (λ v. is_later later.now.seed later.now.free.now v && is_near members.old.items ids.old v) set.old set.new) }
     ensures all { OnOk result (HasAll (λ v. is_later later.now.seed later.now.free.now v && is_near members.old.items ids.old v) set.new) }
 {
-    let mut met = VarSet::new(alloc);
+    met.clear();
     let mut at = ids.len();
     while at > 0 {
         at -= 1;
         let id = ids.at(at) as usize;
-        let found = meet(&mut members[id], &mut met, set, later)?;
+        let found = meet(&mut members[id], met, set, later)?;
         if set.len() > MOST_AUX {
             return Ok(());
         }
@@ -49,8 +49,8 @@ pub(crate) fn walk(
 // The later variables of one clause join; whether this walk has not met all of them before.
 fn meet(
     vars: &mut Numbers,
-    met: &mut VarSet,
-    set: &mut VarSet,
+    met: &mut FlagSet,
+    set: &mut FlagSet,
     later: &Later,
 ) -> Result<bool, NoMemory>
     requires few { length set.old ≤ 256 }
@@ -80,7 +80,7 @@ fn meet(
 }
 
 // A variable that was not met before joins both sets; whether it was not.
-fn join(met: &mut VarSet, set: &mut VarSet, var: u64) -> Result<bool, NoMemory>
+fn join(met: &mut FlagSet, set: &mut FlagSet, var: u64) -> Result<bool, NoMemory>
     ensures new { IfOk result (λ new. new ≡ not (is_among met.old var)) }
     ensures met { OnOk result (met.new ≡ insert_key nat_eq met.old var) }
     ensures set { OnOk result (set.new ≡ (if is_among met.old var then set.old else insert_key nat_eq set.old var)) }

@@ -12,7 +12,7 @@ use Rattle.kn_guess.proofs.growing.least.Goals as goal
 
 pub loop-member-init : goal.loop-member-init
 loop-member-init c =
-    let set : c.insert.new.self ≡ c.args.later.now.seed ∷ [] = c.in_ok-insert.ensures ∙ ap (λ z. insert_key nat_eq z c.args.later.now.seed) c.new-set.ensures in
+    let set : c.insert.new.self ≡ c.args.later.now.seed ∷ [] = c.in_ok-insert.ensures ∙ ap (λ z. insert_key nat_eq z c.args.later.now.seed) c.clear.ensures in
     record {
       grown = subst (IsGrown c.args.store.now c.args.later.now.seed 0) (sym set) (started c.args.store.now c.args.later.now.seed c.requires.first c.requires.last c.requires.seed);
       near = c.requires.near;
@@ -43,7 +43,7 @@ returns-then-len-gt-MOST_AUX-clause-near c =
     near-then c.args.store.now c.args.later.now.free.now c.loop-member.entries.items c.loop-member.members.items c.walk.new.members.items c.args.later.now.seed c.loop-member.at c.in-Some.member c.index_mut.result.now c.walk.new.ids c.loop-member.set c.vars-vars.ensures.stored c.requires.seen c.loop-member.invariant.near c.loop-member.invariant.grown (sym c.get.ensures ∙ c.in-Some.is) was walk
 
 pub returns-then-len-gt-MOST_AUX-clause-many : goal.returns-then-len-gt-MOST_AUX-clause-many
-returns-then-len-gt-MOST_AUX-clause-many c =
+returns-then-len-gt-MOST_AUX-clause-many c = λ e.
     let was = read-is c.loop-member.entries.items (c.in-Some.member - 1) c.index_mut.result.now (ids-there c.args.store.now c.loop-member.entries.items c.loop-member.members.items c.args.later.now.seed c.loop-member.at c.in-Some.member c.loop-member.set c.loop-member.invariant.near c.loop-member.invariant.grown (sym c.get.ensures ∙ c.in-Some.is)) c.index_mut.ensures.value in
     let long = c.len.ensures in let high = c.if-len-gt-MOST_AUX.true in
     over-then c.args.store.now c.args.later.now.free.now c.loop-member.entries.items c.loop-member.members.items c.args.later.now.seed c.loop-member.at c.in-Some.member c.index_mut.result.now c.loop-member.set c.walk.new.set c.vars-vars.ensures.stored c.requires.seen c.loop-member.invariant.near c.loop-member.invariant.grown (sym c.get.ensures ∙ c.in-Some.is) was c.in_ok-walk.ensures.set (omega (arith, long, high))
@@ -71,11 +71,10 @@ loop-member-preserved c =
       few = omega (arith, long, low);
     }
 
-pub returns-clause-least : goal.returns-clause-least
-returns-clause-least c = finished c.args.store.now c.args.later.now.seed c.loop-member.at c.loop-member.set c.loop-member.invariant.grown (sym c.get.ensures ∙ c.in_default.is)
-
-pub returns-clause-known : goal.returns-clause-known
-returns-clause-known c = all-one (IsMember c.args.store.now c.args.later.now.seed) (λ x. (1 ≤ x) × (x ≤ c.args.store.now.vars)) (λ x m. m.known) c.loop-member.set c.loop-member.invariant.grown.members
-
-pub returns-clause-alone : goal.returns-clause-alone
-returns-clause-alone c = all-one (IsMember c.args.store.now c.args.later.now.seed) (λ x. in_klause (constraints_of c.args.store.now.live) x ≡ false) (λ x m. m.alone) c.loop-member.set c.loop-member.invariant.grown.members
+pub returns-clause-few : goal.returns-clause-few
+returns-clause-few c = λ e. record {
+  least = finished c.args.store.now c.args.later.now.seed c.loop-member.at c.loop-member.set c.loop-member.invariant.grown (sym c.get.ensures ∙ c.in_default.is);
+  known = all-one (IsMember c.args.store.now c.args.later.now.seed) (λ x. (1 ≤ x) × (x ≤ c.args.store.now.vars)) (λ x m. m.known) c.loop-member.set c.loop-member.invariant.grown.members;
+  alone = all-one (IsMember c.args.store.now c.args.later.now.seed) (λ x. in_klause (constraints_of c.args.store.now.live) x ≡ false) (λ x m. m.alone) c.loop-member.set c.loop-member.invariant.grown.members;
+  few = c.loop-member.invariant.few;
+}

@@ -5,7 +5,7 @@ use Rattle.kn_guess.proofs.Walked.{IsVisit, IsWalking, set_of, walking-start, pl
 use Rattle.kn_guess.proofs.walking.walk.Goals as goal
 
 pub loop-at-init : goal.loop-at-init
-loop-at-init c = subst (λ m. IsWalking (is_later c.args.later.now.seed c.args.later.now.free.now) c.args.members.now.items c.args.members.now.items c.args.ids.now c.args.ids.now m c.args.set.now c.args.set.now c.len-at.result) (sym c.new-met.ensures) (walking-start (is_later c.args.later.now.seed c.args.later.now.free.now) c.args.members.now.items c.args.ids.now c.args.set.now c.len-at.result c.len-at.ensures c.requires.few)
+loop-at-init c = subst (λ m. IsWalking (is_later c.args.later.now.seed c.args.later.now.free.now) c.args.members.now.items c.args.members.now.items c.args.ids.now c.args.ids.now m c.args.set.now c.args.set.now c.len-at.result) (sym c.clear.ensures) (walking-start (is_later c.args.later.now.seed c.args.later.now.free.now) c.args.members.now.items c.args.ids.now c.args.set.now c.len-at.result c.len-at.ensures c.requires.few)
 
 pub index_mut-requires : goal.index_mut-requires
 index_mut-requires c =
