@@ -22,3 +22,4 @@ pub mod GridLemmas
 pub mod CountLemmas
 pub mod KnownLemmas
 pub mod MakingLemmas
+pub mod MadeLemmas

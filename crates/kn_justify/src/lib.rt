@@ -4,6 +4,7 @@
 mod clauses;
 mod closing;
 mod defining;
+mod eliminations;
 mod joins;
 mod lemmas;
 mod name;
@@ -18,6 +19,7 @@ mod stages;
 mod units;
 
 pub use clauses::clause_unit;
+pub use eliminations::justify_elimination;
 pub use named::Named;
 pub use naming::name_nodes;
 pub use units::{and_unit, exists_unit};
