@@ -83,7 +83,7 @@ different_by (l ∷ lits) h = (
   different_by lits (λ i j d less within. h (suc i) (suc j) d (omega arith) (omega arith)),
 )
 
-border-different : (g : Gathered) → IsGroup g → AreDifferent g.border
+pub border-different : (g : Gathered) → IsGroup g → AreDifferent g.border
 border-different g h = different_by g.border (λ i j d less within. AllPairs-from_increasing (map (λ l. l.variable) g.border) h.border i j d less within)
 
 -- the result is of no variable above the border
@@ -125,14 +125,14 @@ counts_at bound n true f h (inl low) = absurd (omega (arith, f refl, low))
 counts_at bound n false f h (inl low) = sym (lt-leb bound n low)
 counts_at bound n b f h (inr high) = h high ∙ sym (le-leb bound n high)
 
-pub is-count : (g : Gathered) (e : Eliminated) (bound : ℕ) → IsGroup g → IsEliminationOf g e → IsTable e.table → IsNode e.table e.result → CountsBorder g e bound → IsCount e.table (reverse g.aux) (reverse g.border) bound e.result
+pub is-count : (g : Gathered) (e : Eliminated) (bound : ℕ) → IsGroup g → IsEliminationOf g e → IsTable e.table → IsNode e.table e.result → CountsBorder g bound → IsCount e.table (reverse g.aux) (reverse g.border) bound e.result
 is-count g e bound group h ok there counts = record {
   order = h.order ∙ reverse-append (map (λ l. l.variable) g.border) g.aux ∙ ap (λ (xs : List ℕ). reverse g.aux ++ xs) (sym (map-reverse (λ l. l.variable) g.border));
   different = different-turned g.border (border-different g group);
   there = there;
   depth = omega (arith, length-reverse g.aux, root-below g e group h ok there);
   counts = λ v.
-      counts_at bound (places (is_true_by v) g.border) (function_of e.table e.result v) (counts v).0 (counts v).1 (cases_lt (places (is_true_by v) g.border) bound)
+      counts_at bound (places (is_true_by v) g.border) (function_of e.table e.result v) (λ t. (counts v).0 ((h.meaning v).0 t)) (λ low. (h.meaning v).1 ((counts v).1 low)) (cases_lt (places (is_true_by v) g.border) bound)
       ∙ ap (λ (n : ℕ). nat_le bound n) (sym (places-turned (is_true_by v) g.border));
 }
 

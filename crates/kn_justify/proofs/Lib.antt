@@ -30,3 +30,4 @@ pub mod PairGroupLemmas
 pub mod PairBorderLemmas
 pub mod PairClosingLemmas
 pub mod PairTestLemmas
+pub mod MadeLemmas

@@ -12,7 +12,8 @@ use Rattle.kn_diagram.specs.declared.trace.Met.{Met}
 use Rattle.kn_diagram.specs.Diagrams.{Table, IsNode, function_of, is_true_by}
 use Rattle.kn_quant.specs.declared.stage.Stage.{Stage}
 use Rattle.kn_quant.specs.declared.stage.Stage.TheVariants.{Clause, And, Exists}
-use Rattle.kn_quant.specs.Eliminations.{Eliminated, node_of}
+use Rattle.kn_quant.specs.Runs.{CanHold}
+use Rattle.kn_quant.specs.Eliminations.{node_of}
 use Rattle.kn_justify.specs.declared.name.Name.{Name}
 use Rattle.kn_justify.specs.Names.{test_at, IsNamed, IsUnit}
 use Rattle.kn_justify.specs.Stages.{IsAnd, IsExists}
@@ -32,9 +33,9 @@ pub record IsGroupWithin (vars : ℕ) (g : Gathered) : Type 0 where
 abbrev pub klause_of : Gathered → ℕ → Bounded
 klause_of g bound = klause bound (reverse g.border)
 
--- The result of an elimination is "at least so many of the border literals".
-abbrev pub CountsBorder : Gathered → Eliminated → ℕ → Type 0
-CountsBorder g e bound = (v : ℕ → Bool) → (function_of e.table e.result v ≡ true) ↔ (bound ≤ places (is_true_by v) g.border)
+-- The clauses of a group can hold exactly where at least so many of the border literals are true.
+abbrev pub CountsBorder : Gathered → ℕ → Type 0
+CountsBorder g bound = (v : ℕ → Bool) → CanHold g v ↔ (bound ≤ places (is_true_by v) g.border)
 
 -- the variable at each depth is known
 abbrev pub IsOrderKnown : ℕ → Table → Type 0

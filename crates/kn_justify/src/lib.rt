@@ -5,6 +5,7 @@ mod clauses;
 mod closing;
 mod counts;
 mod defining;
+mod eliminations;
 mod joins;
 mod lemmas;
 mod name;
@@ -21,6 +22,7 @@ mod stages;
 mod units;
 
 pub use clauses::clause_unit;
+pub use eliminations::justify_elimination;
 pub use named::Named;
 pub use naming::name_nodes;
 pub use pair_groups::justify_pairs;
