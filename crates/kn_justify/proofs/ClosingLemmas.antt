@@ -1,5 +1,5 @@
 -- How a justification ends: the klause is there, the clauses that it stands for are gone, all other ids are as they were.
-use Rattle.std.proofs.Common.{◌≡◌, ℕ, ◌+◌, ◌++◌, true, false, List, [], ◌∷◌, length, length-append, nat_eq, Option, None, Some, Result, Ok, Err, refl, sym, ap, ◌∙◌, subst, arith, append_assoc}
+use Rattle.std.proofs.Common.{◌≡◌, ℕ, ◌+◌, ◌++◌, true, false, List, [], ◌∷◌, length, length-append, nat_eq, Option, None, Some, Result, Ok, Err, IfOk, OnOk, refl, sym, ap, ◌∙◌, subst, arith, append_assoc}
 use Rattle.std.specs.List.{AllByRecursion, IsDistinct}
 use Rattle.std.specs.Result.{IsOk}
 use Rattle.std.proofs.lemmas.List.{append-nil}
@@ -148,13 +148,9 @@ such-keeps old new w w' (Err error) k ids id c h other e = such-keeps-not old ne
 plain-justifying : (k : Bounded) (ids : List ℕ) (lines : List Line) → ArePlain lines → AreJustifying k ids lines
 plain-justifying k ids lines p = record { front = lines; back = []; both = sym (append-nil lines); plain = p; closing = tt }
 
-pub such-plain : {T : Type 0} (k : Bounded) (ids : List ℕ) (old new : Logged) (w w' : Option (List ℕ)) (r : Result T LogError) → LogsSuch ArePlain old new w w' r → LogsSuch (AreJustifying k ids) old new w w' r
-such-plain k ids old new w w' (Ok x) (lines, p, h) = (lines, plain-justifying k ids lines p, h)
-such-plain k ids old new w w' (Err e) h = not e h
-  where
-    not : (error : LogError) → LogsSuchNot ArePlain old new w w' error → LogsSuchNot (AreJustifying k ids) old new w w' error
-    not Fault (lines, last, p, f) = (lines, last, plain-justifying k ids (lines ++ last ∷ []) p, f)
-    not Memory (lines, p, f) = (lines, plain-justifying k ids lines p, f)
+pub such-plain-not : (k : Bounded) (ids : List ℕ) (old new : Logged) (w w' : Option (List ℕ)) (error : LogError) → LogsSuchNot ArePlain old new w w' error → LogsSuchNot (AreJustifying k ids) old new w w' error
+such-plain-not k ids old new w w' Fault (lines, last, p, f) = (lines, last, plain-justifying k ids (lines ++ last ∷ []) p, f)
+such-plain-not k ids old new w w' Memory (lines, p, f) = (lines, plain-justifying k ids lines p, f)
 
 -- the lines that close it come behind plain ones
 pub closing-behind : {T : Type 0} (k : Bounded) (ids : List ℕ) (old mid new : Logged) (w v u : Option (List ℕ)) (r : Result T LogError) → AddsSuch ArePlain old mid w v → LogsSuch (AreClosing k ids) mid new v u r → LogsSuch (AreJustifying k ids) old new w u r
@@ -186,3 +182,16 @@ closed-not k root unit ids gone old mid new w v u Memory same (e, whole, got) sp
   subst (λ (log : Logged). Adds (Klause k root unit ∷ []) old log w u) (sym kept)
       (subst (λ (x : Option (List ℕ)). Adds (Klause k root unit ∷ []) old mid w x) (sym same_sink) (Adds-one (Klause k root unit) old mid w v e whole spelled got)),
 )
+
+-- ids that are live stay live
+pub live-grows : (old new : ProofState) (ids : List ℕ) → Grown old new → AreLive old.given ids → AreLive new.given ids
+live-grows old new ids g h = subst (λ (xs : List Given). AreLive xs ids) (sym g.given) (live-more old.given g.help ids h)
+
+-- what a result answers
+pub if-ok : {T E : Type 0} (r : Result T E) (P Q : T → Type 0) → IfOk r P → ((x : T) → P x → Q x) → IfOk r Q
+if-ok (Ok x) P Q h f = f x h
+if-ok (Err e) P Q h f = tt
+
+pub ok-of : {T E : Type 0} (r : Result T E) (P : T → Type 0) (Q : Type 0) → IfOk r P → ((x : T) → P x → Q) → OnOk r Q
+ok-of (Ok x) P Q h f = f x h
+ok-of (Err e) P Q h f = tt
