@@ -22,3 +22,6 @@ pub use laws::{
 };
 pub use taken::Taken;
 pub use text::extraction_text;
+
+#[cfg(test)]
+mod tests;

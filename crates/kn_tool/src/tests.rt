@@ -12,6 +12,9 @@ const UNIT_PROOF: &str = "p kpf 1 2\nr 0 1 2 0\n";
 
 const TWO_OF_THREE: &str = "p knf 3 2\nk 2 1 2 3 0\nk 2 -1 -2 -3 0\n";
 
+const PIGEONS: &str =
+    "p knf 12 7\n1 2 3 0\n4 5 6 0\n7 8 9 0\n10 11 12 0\nk 3 -1 -4 -7 -10 0\nk 3 -2 -5 -8 -11 0\nk 3 -3 -6 -9 -12 0\n";
+
 const PAIRS: &str = "p cnf 3 6\n-1 -2 0\n-1 -3 0\n-2 -3 0\n1 2 0\n1 3 0\n2 3 0\n";
 
 /// What a run answered and wrote.
@@ -260,7 +263,7 @@ fn other_words_have_the_usage_line(rt: HostRuntime) -> Result<(), Fail> {
         &["convert", ""],
         &["convert", "F", "P"],
         &["trim", "F"],
-        &["extract", "F"],
+        &["extract", "F", "P"],
     ];
     for words in cases {
         let formula = source(rt.alloc(), UNIT_FILE, true)?;
@@ -526,20 +529,23 @@ fn push_klause(
     text.push_str(" 0\n")
 }
 
+/// Appends klauses which say of five rows of 12 variables that exactly 3 are true in each.
+fn push_rows(alloc: Global, text: &mut String) -> Result<(), AllocError> {
+    for row in 0..5 {
+        push_klause(alloc, text, 9, 12 * row + 1, 12, false)?;
+        push_klause(alloc, text, 3, 12 * row + 1, 12, true)?;
+    }
+    Ok(())
+}
+
 #[test]
 fn convert_numbers_its_counters(rt: HostRuntime) -> Result<(), Fail> {
     let alloc = rt.alloc();
-    let pigeons = converted(
-        alloc,
-        "p knf 12 7\n1 2 3 0\n4 5 6 0\n7 8 9 0\n10 11 12 0\nk 3 -1 -4 -7 -10 0\nk 3 -2 -5 -8 -11 0\nk 3 -3 -6 -9 -12 0\n",
-    )?;
+    let pigeons = converted(alloc, PIGEONS)?;
     assert_eq!(rt; pigeons.text.starts_with(b"p cnf 21 28\n"), true);
     let mut rows = String::new(alloc);
     rows.push_str("p knf 60 10\n")?;
-    for row in 0..5 {
-        push_klause(alloc, &mut rows, 9, 12 * row + 1, 12, false)?;
-        push_klause(alloc, &mut rows, 3, 12 * row + 1, 12, true)?;
-    }
+    push_rows(alloc, &mut rows)?;
     let counted = converted(alloc, &rows)?;
     assert_eq!(rt; counted.answer, Answer::Done);
     assert_eq!(rt; counted.text.starts_with(b"p cnf 720 1370\n"), true);
@@ -552,5 +558,74 @@ fn convert_numbers_its_counters(rt: HostRuntime) -> Result<(), Fail> {
         b"c refused line 0 cause 12\n".as_slice()
     );
     assert_eq!(rt; refused.answer.status(), 1);
+    Ok(())
+}
+
+fn extracted(alloc: Global, formula: &[u8]) -> Result<Seen, AllocError> {
+    let formula = MemSource::new(Vec::from_slice(alloc, formula)?, 3, Vec::new(alloc));
+    run_on(alloc, &["extract", "F"], formula, source(alloc, "", true)?)
+}
+
+#[test]
+fn extract_writes_hidden_counts(rt: HostRuntime) -> Result<(), Fail> {
+    let cases = [
+        (
+            "p cnf 5 6\n1 2 3 0\n-1 4 0\n-4 5 0\n-2 5 0\n-2 -4 0\n-3 -5 0\n",
+            "c group 4 5\np knf 5 2\n1 2 3 0\nk 2 -1 -2 -3 0\n",
+            0,
+        ),
+        (
+            "p cnf 3 5\n-1 -2 0\n-1 -3 0\n-2 -1 0\n-2 -3 0\n1 2 3 0\n",
+            "p knf 3 2\n1 2 3 0\nk 2 -1 -2 -3 0\n",
+            0,
+        ),
+        (
+            "p knf 5 7\n1 2 3 0\n-1 4 0\n-4 5 0\n-2 5 0\n-2 -4 0\n-3 -5 0\nq 4 1 5 0\n",
+            "p knf 5 5\n1 2 3 0\n-1 4 0\n-3 -5 0\nq 4 1 5 0\nk 2 -2 -4 5 0\n",
+            0,
+        ),
+        ("p cnf 2 1\n1 -1 2 2 0\n", "p knf 2 1\n1 -1 2 2 0\n", 0),
+        ("p knf 2 1\nk 2 1 -1 2 0\n", "c refused line 2 cause 8\n", 1),
+    ];
+    for (formula, want, status) in cases {
+        let seen = extracted(rt.alloc(), formula.as_bytes())?;
+        assert_eq!(rt; seen.text.as_slice(), want.as_bytes(), "{formula}");
+        assert_eq!(rt; seen.answer.status(), status, "{formula}");
+    }
+    Ok(())
+}
+
+/// Appends the line of a group, whose variables are so many from the first on.
+fn push_group(alloc: Global, text: &mut String, first: u64, count: u64) -> Result<(), AllocError> {
+    text.push_str("c group")?;
+    for offset in 0..count {
+        let variable = first.saturating_add(offset);
+        text.push_str(&format!(in alloc; " {variable}")?)?;
+    }
+    text.push_str("\n")
+}
+
+#[test]
+fn extract_undoes_what_convert_does(rt: HostRuntime) -> Result<(), Fail> {
+    let alloc = rt.alloc();
+    let clauses = converted(alloc, PIGEONS)?;
+    let pigeons = extracted(alloc, &clauses.text)?;
+    assert_eq!(rt;
+        pigeons.text.as_slice(),
+        b"c group 7 8 9 10 11 12 13 14 15 16 17 18 19 20 21\np knf 21 3\n1 2 3 0\n4 5 6 0\nk 5 -1 -2 -3 -4 -5 -6 0\n".as_slice()
+    );
+    let mut rows = String::new(alloc);
+    rows.push_str("p knf 60 10\n")?;
+    push_rows(alloc, &mut rows)?;
+    let mut want = String::new(alloc);
+    for row in 0..5 {
+        push_group(alloc, &mut want, 132 * row + 61, 33)?;
+        push_group(alloc, &mut want, 132 * row + 94, 99)?;
+    }
+    want.push_str("p knf 720 10\n")?;
+    push_rows(alloc, &mut want)?;
+    let clauses = converted(alloc, &rows)?;
+    let seen = extracted(alloc, &clauses.text)?;
+    assert_eq!(rt; seen.text.as_slice(), want.as_bytes());
     Ok(())
 }
