@@ -13,7 +13,7 @@ use Rattle.kn_store.specs.Stores.{Numbered, Stored, IsStored, constraints_of, id
 use Rattle.kn_store.proofs.Public.{all-one, all-two, IsOwn, Rises, rises}
 use Rattle.kn_guess.specs.Guesses.{in_klause, touches, stands, is_border, IsBorder}
 use Rattle.kn_guess.specs.Refusals.{AreApart, at_border, is_two_sided, AreBorderVariables, IsSmall, IsTooWide, IsTwoSided}
-use Rattle.kn_guess.specs.Growing.{outside_key, with_members}
+use Rattle.kn_guess.specs.Gathering.{outside_key, with_members}
 use Rattle.kn_guess.specs.Sides.{first_in_both, sided}
 use Rattle.kn_guess.proofs.Elements.{bool-same, and-both, not-true, false-not, any-with, each-any, any-map, any-filter, all-unfilter, all-among, own-among, among-append, any-among}
 use Rattle.kn_guess.proofs.Lives.{IsLive, all-live, all-naming, clause-named, is-plain, own-names}

@@ -12,7 +12,7 @@ use Rattle.kn_logic.proofs.Public.{All-push}
 use Rattle.kn_store.specs.Stores.{Numbered, Stored, ids_of, constraint_at, naming}
 use Rattle.kn_store.proofs.Public.{all-one, IsOwn}
 use Rattle.kn_guess.specs.Refusals.{AreApart}
-use Rattle.kn_guess.specs.Growing.{with_number, with_lits, with_found, with_ids, with_members}
+use Rattle.kn_guess.specs.Gathering.{with_number, with_lits, with_found, with_ids, with_members}
 use Rattle.kn_guess.proofs.Elements.{among-front, among-last, any-among}
 
 -- a full set stands still

@@ -28,10 +28,6 @@ abbrev pub with_members : ℕ → (Literal → Option ℕ) → List Numbered →
 with_members limit key live set [] = set
 with_members limit key live set (x ∷ xs) = with_members limit key live (with_ids limit key live set (ids_of (naming x live))) xs
 
--- a variable that is later than the seed and free, by a table of the free ones
-abbrev pub later_key : ℕ → List Bool → Literal → Option ℕ
-later_key seed free l = if nat_lt seed l.variable && slice_index_or free (l.variable - 1) false then Some l.variable else None
-
 -- a variable outside a set, in one polarity
 abbrev pub outside_key : List ℕ → Bool → Literal → Option ℕ
 outside_key set positive l = if (if l.positive then positive else not positive) && not (is_among set l.variable) then Some l.variable else None
