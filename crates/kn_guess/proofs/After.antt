@@ -1,22 +1,20 @@
 -- A store after the guess of a seed was taken out and a klause has come: what stands where, and which variables
 -- are seeds.
-use Rattle.std.proofs.Common.{◌≡◌, ℕ, ◌+◌, ◌-◌, ◌≤◌, ◌<◌, ◌==◌, Bool, true, false, not, cond, ◌&&◌, ◌||◌, List, [], ◌∷◌, ◌++◌, length, map, filter, set, get_or, Option, Some, None, refl, sym, ap, ap₂, subst, ◌∙◌, inl, inr, arith, true≢false}
+use Rattle.std.proofs.Common.{◌≡◌, ℕ, ◌+◌, ◌-◌, ◌≤◌, ◌==◌, Bool, true, false, not, ◌&&◌, ◌||◌, List, [], ◌∷◌, ◌++◌, length, map, filter, set, get_or, Option, Some, None, refl, sym, ap, ap₂, subst, ◌∙◌, inl, inr, arith, true≢false}
 use Rattle.std.specs.Prelude.{◌⊎◌, option_to_list, IfSome}
 use Rattle.std.specs.List.{list_any, AllByRecursion}
-use Rattle.std.specs.List.Sorted.{IsStrictlyIncreasing}
-use Rattle.std.proofs.lemmas.Bool.{or_left, or_right, or_cases, or_parts, and_parts, eqb-true, eqb-false, eq-eqb, ne_eqb, cases_lt}
+use Rattle.std.proofs.lemmas.Bool.{or_left, or_right, or_cases, or_parts, and_parts, eqb-true, eqb-false, ne_eqb, cases_lt}
 use Rattle.std.proofs.lemmas.List.{length-set, get_or-set_same, get_or-set_other, get_or_past}
 use Rattle.std.proofs.lemmas.List.Folds.{list_any-append}
-use Rattle.kn_logic.specs.Literals.{Literal, has, names, is_same, IsKnown, AreKnown}
+use Rattle.kn_logic.specs.Literals.{Literal, has, names, IsKnown, AreKnown}
 use Rattle.kn_logic.specs.Constraints.{Bounded, is_clause, klause, named, Fits}
 use Rattle.kn_logic.specs.Groups.{Gathered, is_among, is_binary, is_pair}
-use Rattle.kn_store.specs.Stores.{Numbered, Stored, IsStored, constraints_of, chosen}
-use Rattle.kn_store.proofs.Public.{all-one, all-two, from-map, to-map}
-use Rattle.kn_guess.specs.Guesses.{in_klause, in_binary, share, stands, is_seed, IsClosedFrom, IsLeastFrom, touches, is_border, IsSeedGuess}
-use Rattle.kn_guess.specs.Seen.{IsSeen}
+use Rattle.kn_store.specs.Stores.{Numbered, Stored, IsStored, constraints_of}
+use Rattle.kn_store.proofs.Public.{all-one, from-map, to-map}
+use Rattle.kn_guess.specs.Guesses.{in_klause, in_binary, share, stands, is_seed, IsClosedFrom, IsLeastFrom, touches, IsSeedGuess}
 use Rattle.kn_guess.specs.Flags.{lowered, cleared}
 use Rattle.kn_guess.specs.Tables.{SeedTable, in_some, IsNear, IsSeedTable, replaced}
-use Rattle.kn_guess.proofs.Elements.{bool-same, and-both, not-true, false-not, any-with, each-any, any-map, any-filter, any-alike}
+use Rattle.kn_guess.proofs.Elements.{and-both, not-true, any-with, each-any, any-map, any-filter}
 use Rattle.kn_guess.proofs.Lives.{clause-named}
 use Rattle.kn_guess.proofs.Bordered.{the-literal, touches-from, touched}
 use Rattle.kn_guess.proofs.Taken.{taken-same}

@@ -1,14 +1,12 @@
 -- Numbers that stand once: as many are in each list that has them all.
-use Rattle.std.proofs.Common.{◌≡◌, ℕ, suc, ◌+◌, ◌≤◌, ◌<◌, ◌==◌, Bool, true, false, not, cond, ◌||◌, List, [], ◌∷◌, length, map, filter, refl, sym, ap, ap₂, subst, ◌∙◌, inl, inr, arith, true≢false}
+use Rattle.std.proofs.Common.{◌≡◌, ℕ, suc, ◌+◌, ◌≤◌, ◌<◌, ◌==◌, Bool, true, false, not, cond, ◌||◌, List, [], ◌∷◌, length, map, filter, refl, sym, ap, ap₂, ◌∙◌, inl, inr, arith, true≢false}
 use Rattle.std.specs.Prelude.{◌⊎◌}
-use Rattle.std.specs.List.{list_any, AllByRecursion}
-use Rattle.std.specs.List.Sorted.{IsStrictlyIncreasing}
+use Rattle.std.specs.List.{AllByRecursion}
 use Rattle.std.proofs.lemmas.Bool.{or_left, or_right, or_cases, or_parts, eqb-true, eq-eqb, ne_eqb}
 use Rattle.kn_logic.specs.Literals.{Literal, names, AreDifferent}
 use Rattle.kn_logic.specs.Groups.{is_among}
-use Rattle.kn_store.proofs.Public.{all-one, all-two, Rises, rises}
+use Rattle.kn_store.proofs.Public.{all-two, Rises}
 use Rattle.kn_guess.specs.Refusals.{AreApart}
-use Rattle.kn_guess.proofs.Elements.{bool-same, not-true}
 use Rattle.kn_guess.proofs.Joined.{filter-yes, filter-no}
 
 abbrev but : ℕ → List ℕ → List ℕ

@@ -1,19 +1,18 @@
 -- The two sides of a border, and what follows from them.
-use Rattle.std.proofs.Common.{◌≡◌, ℕ, ◌+◌, ◌≤◌, ◌<◌, ◌==◌, Bool, true, false, not, cond, ◌&&◌, ◌||◌, List, [], ◌∷◌, ◌++◌, length, map, filter, Option, Some, None, refl, sym, ap, ap₂, subst, ◌∙◌, inl, inr, arith, true≢false}
+use Rattle.std.proofs.Common.{◌≡◌, ℕ, ◌≤◌, ◌<◌, ◌==◌, Bool, true, false, not, cond, ◌&&◌, ◌||◌, List, [], ◌∷◌, ◌++◌, length, map, filter, Option, Some, None, refl, sym, ap, ap₂, subst, ◌∙◌, inl, inr, arith, true≢false}
 use Rattle.std.specs.Prelude.{◌⊎◌, nat_eq, IfSome}
 use Rattle.std.specs.List.{list_any, AllByRecursion}
 use Rattle.std.specs.List.Sorted.{IsStrictlyIncreasing}
-use Rattle.std.proofs.lemmas.Bool.{or_left, or_right, or_cases, and_parts, eqb-true, eq-eqb, cond-true}
-use Rattle.std.proofs.lemmas.List.{length-map}
-use Rattle.kn_logic.specs.Literals.{Literal, names, has, is_same, IsKnown, AreKnown}
-use Rattle.kn_logic.specs.Constraints.{Bounded, named, is_clause}
+use Rattle.std.proofs.lemmas.Bool.{or_left, or_right, or_cases, and_parts, eqb-true, cond-true}
+use Rattle.kn_logic.specs.Literals.{Literal, names, has, is_same, IsKnown}
+use Rattle.kn_logic.specs.Constraints.{Bounded, named}
 use Rattle.kn_logic.specs.Groups.{is_among}
 use Rattle.kn_logic.proofs.Public.{same_literal, same-refl}
-use Rattle.kn_store.specs.Stores.{Numbered, Stored, IsStored, constraints_of, ids_of, naming}
+use Rattle.kn_store.specs.Stores.{Numbered, Stored, IsStored, constraints_of, naming}
 use Rattle.kn_store.proofs.Public.{all-one, all-two, IsOwn, Rises, rises}
 use Rattle.kn_guess.specs.Guesses.{in_klause, touches, stands, is_border, IsBorder}
-use Rattle.kn_guess.specs.Refusals.{AreApart, at_border, is_two_sided, AreBorderVariables, IsSmall, IsTooWide, IsTwoSided}
-use Rattle.kn_guess.specs.Growing.{outside_key, with_members}
+use Rattle.kn_guess.specs.Refusals.{AreApart, at_border, is_two_sided, AreBorderVariables, IsTooWide, IsTwoSided}
+use Rattle.kn_guess.specs.Gathering.{outside_key, with_members}
 use Rattle.kn_guess.specs.Sides.{first_in_both, sided}
 use Rattle.kn_guess.proofs.Elements.{bool-same, and-both, not-true, false-not, any-with, each-any, any-map, any-filter, all-unfilter, all-among, own-among, among-append, any-among}
 use Rattle.kn_guess.proofs.Lives.{IsLive, all-live, all-naming, clause-named, is-plain, own-names}

@@ -1,22 +1,22 @@
 -- The tables as they are at first: the ids of the constraints that name a variable, and the variables of an id.
-use Rattle.std.proofs.Common.{◌≡◌, ℕ, suc, ◌+◌, ◌-◌, ◌≤◌, ◌<◌, ◌==◌, Bool, true, false, not, cond, ◌&&◌, ◌||◌, List, [], ◌∷◌, ◌++◌, length, take, set, get_or, Option, Some, None, refl, sym, ap, ap₂, subst, ◌∙◌, inl, inr, arith, true≢false}
-use Rattle.std.specs.Prelude.{◌⊎◌, option_to_list, IfSome}
+use Rattle.std.proofs.Common.{◌≡◌, ℕ, ◌+◌, ◌-◌, ◌≤◌, ◌<◌, ◌==◌, Bool, true, false, ◌&&◌, ◌||◌, List, [], ◌∷◌, ◌++◌, length, take, set, get_or, Option, Some, refl, sym, ap, ap₂, subst, ◌∙◌, inl, inr, arith, true≢false}
+use Rattle.std.specs.Prelude.{◌⊎◌}
 use Rattle.std.specs.List.{list_any, AllByRecursion}
-use Rattle.std.proofs.lemmas.Bool.{or_left, or_right, or_cases, and_parts, eqb-true, eqb-false, eq-eqb, cases_lt}
+use Rattle.std.proofs.lemmas.Bool.{or_cases, and_parts, eqb-true, eqb-false, eq-eqb, cases_lt}
 use Rattle.std.proofs.lemmas.List.{length-set, get_or-set_same, get_or-set_other, get_or_past, get_or_default, take_more}
-use Rattle.kn_logic.specs.Literals.{Literal, names, IsKnown, AreKnown}
+use Rattle.kn_logic.specs.Literals.{names}
 use Rattle.kn_logic.specs.Constraints.{Bounded, named, Fits}
 use Rattle.kn_logic.specs.Groups.{is_among}
 use Rattle.kn_store.specs.Stores.{Numbered, Stored, IsStored, constraints_of, ids_of, naming, constraint_at}
-use Rattle.kn_store.proofs.Public.{all-one, IsOwn}
-use Rattle.kn_guess.specs.Guesses.{in_klause, share}
+use Rattle.kn_store.proofs.Public.{all-one}
+use Rattle.kn_guess.specs.Guesses.{share}
 use Rattle.kn_guess.specs.Walks.{kept, is_near}
 use Rattle.kn_guess.specs.Tables.{in_some, IsNear}
-use Rattle.kn_guess.proofs.Elements.{bool-same, and-both, any-with, each-any, any-map, own-among, all-among, among-append}
+use Rattle.kn_guess.proofs.Elements.{and-both, any-with, each-any, any-map, among-append}
 use Rattle.kn_guess.proofs.Lives.{IsLive, all-live, names-known}
 use Rattle.kn_guess.proofs.Taken.{among-chosen}
 use Rattle.kn_guess.proofs.After.{known-named}
-use Rattle.kn_guess.proofs.Walked.{near-of, near-list, any-in}
+use Rattle.kn_guess.proofs.Walked.{near-of, near-list}
 
 -- one id more
 one-mixed : (a b c : Bool) → ((a || (b && c)) || (c || false)) ≡ (a || ((b || (true || false)) && c))

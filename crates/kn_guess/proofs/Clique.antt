@@ -1,20 +1,20 @@
 -- The guess of a start is a pair group.
-use Rattle.std.proofs.Common.{◌≡◌, ℕ, ◌+◌, ◌≤◌, ◌<◌, ◌==◌, Bool, true, false, not, cond, ◌&&◌, ◌||◌, List, [], ◌∷◌, ◌++◌, length, map, filter, Option, Some, None, nat_lt, refl, sym, ap, ap₂, subst, ◌∙◌, inl, inr, arith, true≢false}
+use Rattle.std.proofs.Common.{◌≡◌, ℕ, ◌≤◌, ◌<◌, ◌==◌, Bool, true, false, not, cond, ◌&&◌, ◌||◌, List, [], ◌∷◌, ◌++◌, length, map, Option, Some, nat_lt, refl, sym, ap, ap₂, subst, ◌∙◌, inl, inr, arith, true≢false}
 use Rattle.std.specs.Prelude.{◌⊎◌}
 use Rattle.std.specs.List.{list_any, list_all, AllByRecursion}
 use Rattle.std.specs.List.Sorted.{IsStrictlyIncreasing}
-use Rattle.std.proofs.lemmas.Bool.{or_left, or_right, or_parts, or_cases, and_parts, eqb-true, eqb-false, eq-eqb, ne_eqb}
+use Rattle.std.proofs.lemmas.Bool.{or_left, or_right, or_parts, or_cases, and_parts, eqb-false, ne_eqb}
 use Rattle.std.proofs.lemmas.List.{length-map}
 use Rattle.kn_logic.specs.Literals.{Literal, is_same, has, names, AreDifferent, IsKnown, AreKnown}
 use Rattle.kn_logic.specs.Constraints.{Bounded, is_clause, Fits}
 use Rattle.kn_logic.specs.Groups.{Gathered, is_among, is_pair, is_binary, is_pair_of, has_pair, is_covered, IsGroup, IsPairGroup}
 use Rattle.kn_logic.proofs.Public.{same_literal, same-refl, has-push}
 use Rattle.kn_store.specs.Stores.{Numbered, Stored, IsStored, constraints_of, constraint_at, chosen}
-use Rattle.kn_store.proofs.Public.{all-one, all-two, all-pass, all-filter, to-map, from-map, Rises, rises}
+use Rattle.kn_store.proofs.Public.{all-one, all-pass, to-map, Rises, rises}
 use Rattle.kn_guess.specs.Guesses.{joins, joined, candidates, pair_group, IsPairGuess, IsNoPairGuess}
 use Rattle.kn_guess.specs.Pairing.{IsCoverOf}
 use Rattle.kn_guess.proofs.Apart.{apart-few, rising-apart, names-among}
-use Rattle.kn_guess.proofs.Elements.{bool-same, and-both, not-true, any-with, each-any, any-map, any-filter}
+use Rattle.kn_guess.proofs.Elements.{and-both, not-true, any-with, each-any, any-map, any-filter}
 use Rattle.kn_guess.proofs.Joined.{own-literal, at-literal, all-end, candidates-known, has-name}
 use Rattle.kn_guess.proofs.Entered.{either, no-self, found-all}
 

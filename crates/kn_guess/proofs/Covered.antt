@@ -1,26 +1,25 @@
 -- A group of literals, ascending, and the clauses of two of them.
-use Rattle.std.proofs.Common.{◌≡◌, ℕ, ◌+◌, ◌≤◌, ◌<◌, ◌==◌, Bool, true, false, not, cond, ◌&&◌, ◌||◌, List, [], ◌∷◌, ◌++◌, length, map, filter, drop, Option, Some, None, refl, sym, ap, ap₂, subst, ◌∙◌, inl, inr, arith, true≢false}
-use Rattle.std.specs.Prelude.{◌⊎◌, nat_eq}
+use Rattle.std.proofs.Common.{◌≡◌, ℕ, ◌≤◌, ◌==◌, Bool, true, false, not, cond, ◌&&◌, ◌||◌, List, [], ◌∷◌, ◌++◌, length, map, filter, drop, refl, sym, ap, ap₂, subst, ◌∙◌, inl, inr, arith, true≢false}
+use Rattle.std.specs.Prelude.{nat_eq}
 use Rattle.std.specs.List.{list_any, list_all, AllByRecursion}
 use Rattle.std.specs.List.Sorted.{IsStrictlyIncreasing}
-use Rattle.std.proofs.lemmas.Bool.{or_left, or_right, or_cases, or_parts, and_parts, eqb-true, eq-eqb, ne_eqb, cond-true, cond-false}
+use Rattle.std.proofs.lemmas.Bool.{or_left, or_right, or_cases, and_parts, eqb-true, eq-eqb, ne_eqb}
 use Rattle.std.proofs.lemmas.List.{length-map, append-nil, drop_all}
-use Rattle.std.proofs.lemmas.List.Folds.{list_any-append}
 use Rattle.indexmap.specs.IndexSet.{insert_key}
-use Rattle.kn_logic.specs.Literals.{Literal, is_same, has, names, AreDifferent, IsKnown, AreKnown}
-use Rattle.kn_logic.specs.Constraints.{Bounded, is_clause, named}
-use Rattle.kn_logic.specs.Groups.{Gathered, is_among, is_pair, is_binary, is_covered}
+use Rattle.kn_logic.specs.Literals.{Literal, is_same, has, names, AreDifferent}
+use Rattle.kn_logic.specs.Constraints.{is_clause, named}
+use Rattle.kn_logic.specs.Groups.{is_among, is_pair, is_binary, is_covered}
 use Rattle.kn_logic.proofs.Public.{same_literal, same-refl}
-use Rattle.kn_store.specs.Stores.{Numbered, Stored, IsStored, constraints_of, ids_of, naming, chosen, constraint_at}
-use Rattle.kn_store.proofs.Public.{all-one, all-filter, IsOwn, own, Rises, rises}
+use Rattle.kn_store.specs.Stores.{Numbered, Stored, IsStored, ids_of, naming, chosen}
+use Rattle.kn_store.proofs.Public.{all-one, all-filter, IsOwn, own, rises}
 use Rattle.kn_guess.specs.Seen.{passes}
 use Rattle.kn_guess.specs.Sides.{sided}
 use Rattle.kn_guess.specs.Pairing.{positives, covered_among, covered_ids}
-use Rattle.kn_guess.proofs.Elements.{bool-same, and-both, not-true, false-not, any-with, each-any, any-map, any-filter, any-alike, all-among, own-among, any-among, among-append}
+use Rattle.kn_guess.proofs.Elements.{bool-same, and-both, any-with, each-any, any-map, any-filter, any-alike, all-among, own-among, any-among, among-append}
 use Rattle.kn_guess.proofs.Rising.{numbers-one, rises-ids}
 use Rattle.kn_guess.proofs.Lives.{clause-named}
 use Rattle.kn_guess.proofs.Bordered.{the-literal, map-sided}
-use Rattle.kn_guess.proofs.Taken.{among-chosen, found-are}
+use Rattle.kn_guess.proofs.Taken.{among-chosen}
 use Rattle.kn_guess.proofs.Joined.{own-literal, at-literal, has-name}
 use Rattle.kn_guess.proofs.Clique.{Differ, pair-lits, one-literal}
 use Rattle.kn_guess.proofs.Apart.{apart-few, names-among, variables-apart}

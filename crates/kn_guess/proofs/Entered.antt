@@ -1,10 +1,9 @@
 -- How a table of pairs is made: what each row has after the clauses of one literal, and in the end.
-use Rattle.std.proofs.Common.{◌≡◌, ℕ, suc, ◌+◌, ◌*◌, ◌-◌, ◌≤◌, ◌<◌, ◌==◌, Bool, true, false, not, cond, ◌&&◌, ◌||◌, List, [], ◌∷◌, ◌++◌, length, map, filter, take, drop, set, get_or, replicate, Option, Some, None, refl, sym, ap, ap₂, subst, ◌∙◌, inl, inr, arith, true≢false, append_assoc}
-use Rattle.std.specs.Prelude.{◌⊎◌, zero, slice_get, IfSome, option_to_list}
+use Rattle.std.proofs.Common.{◌≡◌, ℕ, suc, ◌+◌, ◌*◌, ◌-◌, ◌≤◌, ◌<◌, ◌==◌, Bool, true, false, not, cond, ◌&&◌, ◌||◌, List, [], ◌∷◌, ◌++◌, length, map, filter, take, drop, set, replicate, Option, Some, None, refl, sym, ap, ap₂, subst, ◌∙◌, inl, inr, arith, true≢false, append_assoc}
+use Rattle.std.specs.Prelude.{◌⊎◌, zero, slice_get, IfSome}
 use Rattle.std.specs.Option.{is_some}
 use Rattle.std.specs.List.{list_any, AllByRecursion}
-use Rattle.std.specs.List.Sorted.{IsStrictlyIncreasing}
-use Rattle.std.proofs.lemmas.Bool.{or_left, or_right, or_cases, and_parts, eqb-true, eqb-false, eq-eqb, ne_eqb, cond-true, cond-false}
+use Rattle.std.proofs.lemmas.Bool.{or_left, or_right, or_cases, and_parts, eqb-false, eq-eqb, ne_eqb, cond-true, cond-false}
 use Rattle.std.proofs.Math.Bool.{beq}
 use Rattle.std.proofs.lemmas.List.{length-set, get_or-set_same, get_or-set_other, get_or-replicate, length-replicate, append-nil, drop_all, take_all}
 use Rattle.kn_logic.specs.Literals.{Literal, is_same, has, names, IsKnown, AreKnown}
@@ -12,13 +11,12 @@ use Rattle.kn_logic.specs.Constraints.{Bounded, is_clause, named, Fits}
 use Rattle.kn_logic.specs.Groups.{is_pair, is_binary, is_pair_of, has_pair}
 use Rattle.kn_logic.proofs.Public.{same_literal, same-refl, has-push}
 use Rattle.kn_store.specs.Stores.{Numbered, Stored, IsStored, constraints_of, ids_of, naming, constraint_at}
-use Rattle.kn_store.proofs.Public.{all-one, all-two, all-filter, all-pass, from-map, to-map, IsOwn, Rises, rises, increasing}
-use Rattle.kn_guess.specs.Guesses.{candidates}
+use Rattle.kn_store.proofs.Public.{all-one, all-two, all-filter, from-map, to-map, IsOwn, Rises, increasing}
 use Rattle.kn_guess.specs.Tables.{Paired, PairTable, rank, row, lits_of, ranks, is_partner, is_left, IsPaired, IsPairTable}
 use Rattle.kn_guess.specs.Pairing.{ends, with_entry, other, other_of, entered, found_entered, all_entered}
-use Rattle.kn_guess.proofs.Elements.{bool-same, and-both, not-true, not-false, false-not, any-with, each-any, any-map, any-filter, any-alike}
-use Rattle.kn_guess.proofs.Lives.{IsLive, all-live, all-naming, clause-named}
-use Rattle.kn_guess.proofs.Joined.{filter-yes, filter-no, filter-all, at-literal, has-name, all-end, cands, of-variable, cands-more, cands-known, candidates-known, rank-within}
+use Rattle.kn_guess.proofs.Elements.{bool-same, and-both, not-true, each-any, any-map, any-filter, any-alike}
+use Rattle.kn_guess.proofs.Lives.{IsLive, all-live, clause-named}
+use Rattle.kn_guess.proofs.Joined.{filter-all, at-literal, has-name, all-end, cands, of-variable, cands-more, cands-known, rank-within}
 
 -- the last entry
 pub ends-at : (l : Literal) (ps : List Paired) (p : Paired) → slice_get ps (length ps - 1) ≡ Some p → ends l ps ≡ is_same p.lit l

@@ -1,26 +1,23 @@
 -- A seed is refused for one reason alone, and what is refused has no guess.
-use Rattle.std.proofs.Common.{◌≡◌, ℕ, ◌+◌, ◌≤◌, ◌<◌, ◌==◌, Bool, true, false, not, ◌&&◌, ◌||◌, List, [], ◌∷◌, length, map, filter, refl, sym, ap, ap₂, subst, ◌∙◌, inl, inr, arith, true≢false}
-use Rattle.std.specs.Prelude.{◌⊎◌}
-use Rattle.std.specs.List.{list_any, AllByRecursion}
-use Rattle.std.specs.List.Sorted.{IsStrictlyIncreasing}
+use Rattle.std.proofs.Common.{◌≡◌, ℕ, ◌≤◌, ◌<◌, ◌==◌, Bool, true, false, not, ◌&&◌, ◌||◌, List, length, map, filter, refl, sym, ap, ap₂, subst, ◌∙◌, inl, inr, arith, true≢false}
 use Rattle.std.proofs.lemmas.Bool.{or_left, or_right, or_cases, and_parts, eqb-true, cases_lt}
 use Rattle.std.proofs.lemmas.List.{length-map}
 use Rattle.kn_logic.specs.Literals.{Literal, has, names, AreDifferent}
 use Rattle.kn_logic.specs.Constraints.{Bounded, named}
 use Rattle.kn_logic.specs.Groups.{Gathered, is_among}
-use Rattle.kn_store.specs.Stores.{Stored, constraints_of, ids_of, chosen}
-use Rattle.kn_store.proofs.Public.{all-one, to-map, Rises, rises}
+use Rattle.kn_store.specs.Stores.{Stored, constraints_of}
+use Rattle.kn_store.proofs.Public.{all-one, rises}
 use Rattle.kn_guess.specs.declared.error.NoGuess.{NoGuess}
 use Rattle.kn_guess.specs.declared.error.NoGuess.TheVariants.{NotSeed, TooMany, SmallBorder, TooWideBorder, TwoSided, Memory}
-use Rattle.kn_guess.specs.Guesses.{is_seed, IsClosedFrom, IsLeastFrom, touches, stands, is_border, IsBorder, IsSeedGuess}
-use Rattle.kn_guess.specs.Refusals.{AreApart, AreForced, IsTooMany, at_border, is_two_sided, AreBorderVariables, IsSmall, IsTooWide, IsTwoSided, IsBorderRefused, IsLeastRefused, IsRefused}
-use Rattle.kn_guess.proofs.Elements.{bool-same, and-both, any-with, any-alike, all-among, own-among}
+use Rattle.kn_guess.specs.Guesses.{is_seed, IsLeastFrom, touches, stands, is_border, IsBorder, IsSeedGuess}
+use Rattle.kn_guess.specs.Refusals.{IsTooMany, at_border, is_two_sided, AreBorderVariables, IsSmall, IsTooWide, IsTwoSided, IsBorderRefused, IsLeastRefused, IsRefused}
+use Rattle.kn_guess.proofs.Elements.{bool-same, any-with, any-alike, own-among}
 use Rattle.kn_guess.proofs.Rising.{numbers-one}
 use Rattle.kn_guess.proofs.Taken.{taken-same}
 use Rattle.kn_guess.proofs.Bordered.{the-literal}
 use Rattle.kn_guess.proofs.Joined.{filter-same, all-of, own-literal, has-name}
 use Rattle.kn_guess.proofs.Clique.{rises-different, one-literal}
-use Rattle.kn_guess.proofs.Apart.{apart-few, rising-apart, names-among}
+use Rattle.kn_guess.proofs.Apart.{apart-few, names-among}
 
 named-literal : (lits : List Literal) (x : ℕ) → names lits x ≡ true → (l : Literal) × (l.variable ≡ x) × (has lits l ≡ true)
 named-literal lits x e = let q = any-with (λ l. has lits l ≡ true) (λ l. l.variable == x) lits (own-literal lits) e in (q.0, eqb-true q.0.variable x q.1, q.2)

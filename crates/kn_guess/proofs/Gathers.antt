@@ -1,18 +1,18 @@
 -- Gathering a set from literals: what it keeps, and that it misses none.
-use Rattle.std.proofs.Common.{◌≡◌, ℕ, ◌≤◌, ◌<◌, ◌==◌, Bool, true, false, not, cond, ◌&&◌, ◌||◌, List, [], ◌∷◌, ◌++◌, length, Option, Some, None, nat_lt, refl, sym, ap, ap₂, subst, ◌∙◌, inl, inr, arith, true≢false, append_assoc, length-append}
-use Rattle.std.specs.Prelude.{◌⊎◌, nat_eq, IfSome}
+use Rattle.std.proofs.Common.{◌≡◌, ℕ, ◌≤◌, ◌<◌, ◌==◌, Bool, true, false, cond, ◌||◌, List, [], ◌∷◌, ◌++◌, length, Option, Some, None, nat_lt, refl, sym, ap, ap₂, subst, ◌∙◌, arith, true≢false, append_assoc, length-append}
+use Rattle.std.specs.Prelude.{nat_eq, IfSome}
 use Rattle.std.specs.List.{list_any, AllByRecursion}
 use Rattle.std.proofs.lemmas.Bool.{cond-true, cond-false, or_parts, eq-eqb, ne_eqb, lt-ltb, ltb-true}
 use Rattle.std.proofs.lemmas.List.{append-nil}
 use Rattle.indexmap.specs.IndexSet.{insert_key}
-use Rattle.kn_logic.specs.Literals.{Literal, names}
-use Rattle.kn_logic.specs.Constraints.{Bounded, named}
+use Rattle.kn_logic.specs.Literals.{Literal}
+use Rattle.kn_logic.specs.Constraints.{Bounded}
 use Rattle.kn_logic.specs.Groups.{is_among}
 use Rattle.kn_logic.proofs.Public.{All-push}
-use Rattle.kn_store.specs.Stores.{Numbered, Stored, ids_of, constraint_at, naming}
+use Rattle.kn_store.specs.Stores.{Numbered, ids_of, constraint_at, naming}
 use Rattle.kn_store.proofs.Public.{all-one, IsOwn}
 use Rattle.kn_guess.specs.Refusals.{AreApart}
-use Rattle.kn_guess.specs.Growing.{with_number, with_lits, with_found, with_ids, with_members}
+use Rattle.kn_guess.specs.Gathering.{with_number, with_lits, with_found, with_ids, with_members}
 use Rattle.kn_guess.proofs.Elements.{among-front, among-last, any-among}
 
 -- a full set stands still

@@ -1,5 +1,5 @@
 -- Growing the least set of a seed: the turn of one member, and what stands at the end.
-use Rattle.std.proofs.Common.{◌≡◌, ℕ, ◌+◌, ◌-◌, ◌≤◌, ◌<◌, ◌==◌, Bool, true, false, not, ◌&&◌, ◌||◌, List, [], ◌∷◌, ◌++◌, length, take, drop, set, get_or, Option, Some, None, nat_lt, refl, sym, ap, subst, ◌∙◌, inl, inr, arith, true≢false}
+use Rattle.std.proofs.Common.{◌≡◌, ℕ, ◌+◌, ◌-◌, ◌≤◌, ◌<◌, ◌==◌, Bool, true, false, not, ◌&&◌, ◌||◌, List, [], ◌∷◌, ◌++◌, length, take, drop, set, get_or, Some, None, nat_lt, refl, sym, ap, subst, ◌∙◌, inl, inr, arith, true≢false}
 use Rattle.std.specs.Prelude.{◌⊎◌, slice_get}
 use Rattle.std.specs.List.{list_any, AllByRecursion}
 use Rattle.std.proofs.lemmas.Bool.{or_left, or_cases, and_parts, eqb-true, eqb-false, eq-eqb, cases_lt, lt-ltb, ltb-true}
@@ -18,7 +18,7 @@ use Rattle.kn_guess.specs.Tables.{in_some, IsNear}
 use Rattle.kn_guess.proofs.Elements.{any-with, each-any, all-among, own-among, among-last, among-end, and-both, not-true}
 use Rattle.kn_guess.proofs.Gathers.{among-extends}
 use Rattle.kn_guess.proofs.Bordered.{the-literal}
-use Rattle.kn_guess.proofs.Joined.{has-name, all-of}
+use Rattle.kn_guess.proofs.Joined.{has-name}
 use Rattle.kn_guess.proofs.After.{seed-alone}
 use Rattle.kn_guess.proofs.Walked.{set_of, near-more, near-less, near-stays}
 use Rattle.kn_guess.proofs.Built.{share-known}

@@ -1,6 +1,6 @@
 -- Which candidates need to be tried: those that are partners of one member, whichever. So those that join are
 -- found by cutting what is left to the partners of each literal that joins.
-use Rattle.std.proofs.Common.{◌≡◌, ℕ, suc, ◌+◌, ◌*◌, ◌≤◌, ◌<◌, ◌==◌, Bool, true, false, not, cond, ◌&&◌, ◌||◌, List, [], ◌∷◌, ◌++◌, length, map, filter, get_or, nat_lt, refl, sym, ap, ap₂, subst, ◌∙◌, inl, inr, arith, true≢false, append_assoc}
+use Rattle.std.proofs.Common.{◌≡◌, ℕ, suc, ◌+◌, ◌*◌, ◌≤◌, ◌<◌, ◌==◌, Bool, true, false, not, cond, ◌&&◌, ◌||◌, List, [], ◌∷◌, ◌++◌, length, filter, get_or, nat_lt, refl, sym, ap, ap₂, subst, ◌∙◌, inl, inr, arith, true≢false}
 use Rattle.std.specs.Prelude.{◌⊎◌, zero}
 use Rattle.std.specs.List.{list_any, list_all, flat_map, range_with_len, AllByRecursion}
 use Rattle.std.specs.List.Sorted.{IsStrictlyIncreasing}
@@ -12,9 +12,9 @@ use Rattle.kn_logic.proofs.Public.{same_literal, same-refl}
 use Rattle.kn_store.specs.Stores.{Numbered, Stored, constraints_of}
 use Rattle.kn_store.proofs.Public.{all-one, all-two, all-filter, all-pass, from-map, to-map, Rises, rises, increasing}
 use Rattle.kn_guess.specs.Guesses.{joins, joined, candidates}
-use Rattle.kn_guess.specs.Tables.{Paired, PairTable, rank, row, lits_of, ranks, is_partner, is_left, IsPaired, IsPairTable}
+use Rattle.kn_guess.specs.Tables.{Paired, PairTable, rank, row, lits_of, ranks, is_partner, is_left, IsPairTable}
 use Rattle.kn_guess.specs.Pairing.{is_common, AreLeft}
-use Rattle.kn_guess.proofs.Elements.{bool-same, and-both, not-true, not-false, false-not, any-with, each-any, any-map, any-filter}
+use Rattle.kn_guess.proofs.Elements.{bool-same, and-both, not-true, any-with, each-any, any-map, any-filter}
 
 -- lists and filters
 pub filter-yes : {X : Type 0} (f : X → Bool) (x : X) (xs : List X) → f x ≡ true → filter f (x ∷ xs) ≡ x ∷ filter f xs

@@ -1,16 +1,15 @@
 -- What is known of the constraints of a store, and of those that name a variable.
-use Rattle.std.proofs.Common.{◌≡◌, ℕ, ◌≤◌, ◌==◌, Bool, true, false, not, ◌&&◌, ◌||◌, List, [], ◌∷◌, ◌++◌, length, map, filter, Option, Some, None, refl, sym, ap, ap₂, subst, ◌∙◌, true≢false}
+use Rattle.std.proofs.Common.{◌≡◌, ℕ, ◌≤◌, ◌==◌, Bool, true, false, not, ◌&&◌, List, ◌++◌, Option, Some, None, refl, sym, ap, subst, ◌∙◌, true≢false}
 use Rattle.std.specs.Prelude.{option_to_list}
 use Rattle.std.specs.Option.{is_none}
 use Rattle.std.specs.List.{list_any, AllByRecursion}
-use Rattle.std.proofs.lemmas.Bool.{and_parts, or_left, or_right, eqb-true, eq-eqb}
-use Rattle.kn_logic.specs.Literals.{Literal, names, has, is_same, IsKnown, AreKnown}
+use Rattle.std.proofs.lemmas.Bool.{and_parts, eqb-true, eq-eqb}
+use Rattle.kn_logic.specs.Literals.{Literal, names, IsKnown, AreKnown}
 use Rattle.kn_logic.specs.Constraints.{Bounded, is_clause, named, Fits}
-use Rattle.kn_logic.proofs.Public.{same_literal}
 use Rattle.kn_store.specs.Stores.{Numbered, Stored, IsStored, constraints_of, ids_of, naming, constraint_at}
 use Rattle.kn_store.proofs.Public.{all-one, all-two, from-map, all-filter, all-pass, rises, IsOwn, own}
 use Rattle.kn_guess.specs.Guesses.{in_klause}
-use Rattle.kn_guess.proofs.Elements.{any-with, each-any, not-true, not-false, and-both}
+use Rattle.kn_guess.proofs.Elements.{any-with, each-any, and-both}
 
 pub record IsLive (s : Stored) (p : Numbered) : Type 0 where
   pub own : constraint_at s.live p.id ≡ Some p.constraint

@@ -1,18 +1,16 @@
 -- Lists of numbers that rise: two with the same members are one, and what sorting leaves.
-use Rattle.std.proofs.Common.{◌≡◌, ℕ, suc, ◌+◌, ◌≤◌, ◌<◌, ◌==◌, Bool, true, false, ◌||◌, eqb, List, [], ◌∷◌, length, map, filter, get_or, refl, sym, ap, ap₂, subst, ◌∙◌, inl, inr, arith, true≢false, cond}
+use Rattle.std.proofs.Common.{◌≡◌, ℕ, suc, ◌<◌, ◌==◌, Bool, true, false, ◌||◌, eqb, List, [], ◌∷◌, filter, refl, sym, ap, ap₂, subst, ◌∙◌, inl, inr, arith, true≢false, cond}
 use Rattle.std.specs.Prelude.{◌⊎◌, zero, Contains}
-use Rattle.std.specs.List.{list_any, AllByRecursion}
+use Rattle.std.specs.List.{AllByRecursion}
 use Rattle.std.specs.List.{dedup}
-use Rattle.std.specs.List.Sorted.{IsStrictlyIncreasing, IsSorted, IsPermutation}
-use Rattle.std.specs.Ordering.{nat_cmp}
-use Rattle.std.proofs.lemmas.Bool.{or_left, or_right, or_cases, eqb-true, eq-eqb}
+use Rattle.std.specs.List.Sorted.{IsPermutation}
+use Rattle.std.proofs.lemmas.Bool.{or_left, or_cases, eqb-true, eq-eqb}
 use Rattle.std.proofs.lemmas.List.Sorted.{Contains-permutation, IsPermutation-sym}
 use Rattle.std.proofs.lemmas.List.Kept.{Contains-dedup_nat, Contains-from_dedup}
-use Rattle.std.proofs.lemmas.Map.Keys.{IsStrictlyIncreasing-dedup}
 use Rattle.std.proofs.lemmas.List.Elements.{All-from_recursion}
 use Rattle.kn_logic.specs.Groups.{is_among}
 use Rattle.kn_store.specs.Stores.{Numbered, ids_of}
-use Rattle.kn_store.proofs.Public.{all-one, to-map, from-map, all-filter, Rises}
+use Rattle.kn_store.proofs.Public.{to-map, from-map, all-filter, Rises}
 use Rattle.kn_guess.proofs.Elements.{bool-same, own-among}
 
 low-out : (x : ℕ) (ys : List ℕ) → AllByRecursion (λ y. x < y) ys → is_among ys x ≡ false

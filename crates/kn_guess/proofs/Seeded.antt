@@ -1,5 +1,5 @@
 -- The guess of a seed, from its parts.
-use Rattle.std.proofs.Common.{◌≡◌, ℕ, ◌≤◌, ◌<◌, Bool, true, false, List, length, filter, sym, ap, subst, ◌∙◌}
+use Rattle.std.proofs.Common.{◌≡◌, ℕ, ◌≤◌, true, List, length, filter, sym, ap, subst, ◌∙◌}
 use Rattle.std.specs.List.{AllByRecursion}
 use Rattle.std.specs.List.Sorted.{IsStrictlyIncreasing}
 use Rattle.kn_logic.specs.Literals.{Literal}
@@ -9,7 +9,7 @@ use Rattle.kn_store.specs.Stores.{Stored, constraints_of, ids_of, chosen}
 use Rattle.kn_store.proofs.Public.{all-one}
 use Rattle.kn_guess.specs.declared.error.NoGuess.{NoGuess}
 use Rattle.kn_guess.specs.declared.error.NoGuess.TheVariants.{NotSeed, TooMany, SmallBorder, TooWideBorder, TwoSided, Memory}
-use Rattle.kn_guess.specs.Guesses.{is_seed, share, in_klause, IsClosedFrom, IsLeastFrom, touches, IsBorder, IsSeedGuess}
+use Rattle.kn_guess.specs.Guesses.{is_seed, IsLeastFrom, touches, IsBorder, IsSeedGuess}
 use Rattle.kn_guess.specs.Refusals.{IsBorderRefused, IsRefused}
 use Rattle.kn_guess.proofs.Elements.{all-among, own-among}
 use Rattle.kn_guess.proofs.Taken.{taken-same}

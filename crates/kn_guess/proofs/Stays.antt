@@ -1,18 +1,18 @@
 -- A table of pairs after a group was taken out and a klause has come: its rows tell what is left.
-use Rattle.std.proofs.Common.{◌≡◌, ℕ, ◌+◌, ◌*◌, ◌≤◌, ◌<◌, ◌==◌, Bool, true, false, not, cond, ◌&&◌, ◌||◌, List, [], ◌∷◌, ◌++◌, length, map, filter, Option, Some, None, refl, sym, ap, ap₂, subst, ◌∙◌, inl, inr, arith, true≢false}
+use Rattle.std.proofs.Common.{◌≡◌, ℕ, ◌+◌, ◌≤◌, ◌<◌, ◌==◌, Bool, true, false, not, cond, ◌&&◌, ◌||◌, List, [], ◌∷◌, ◌++◌, filter, Option, Some, None, refl, sym, ap, subst, ◌∙◌, arith}
 use Rattle.std.specs.Prelude.{IfSome}
-use Rattle.std.specs.Option.{is_some, is_none}
+use Rattle.std.specs.Option.{is_some}
 use Rattle.std.specs.List.{list_any, AllByRecursion}
-use Rattle.std.proofs.lemmas.Bool.{and_parts, eqb-true, eqb-false, eq-eqb, ne_eqb, cond-true, cond-false}
+use Rattle.std.proofs.lemmas.Bool.{eqb-true, ne_eqb, cond-true, cond-false}
 use Rattle.std.proofs.lemmas.List.Folds.{list_any-append}
-use Rattle.kn_logic.specs.Literals.{Literal, has, IsKnown}
-use Rattle.kn_logic.specs.Constraints.{Bounded, klause, is_clause}
+use Rattle.kn_logic.specs.Literals.{Literal, has}
+use Rattle.kn_logic.specs.Constraints.{Bounded, klause}
 use Rattle.kn_logic.specs.Groups.{is_pair, is_binary, is_pair_of, has_pair, is_covered}
 use Rattle.kn_store.specs.Stores.{Numbered, Stored, IsStored, constraints_of, ids_of, constraint_at}
 use Rattle.kn_store.proofs.Public.{all-one, from-map, Rises, rises}
 use Rattle.kn_guess.specs.Guesses.{candidates}
 use Rattle.kn_guess.specs.Tables.{Paired, PairTable, row, lits_of, is_partner, is_left, replaced, IsPaired, IsPairTable}
-use Rattle.kn_guess.proofs.Elements.{bool-same, and-both, any-map, any-filter, any-alike}
+use Rattle.kn_guess.proofs.Elements.{any-map, any-filter, any-alike}
 use Rattle.kn_guess.proofs.Joined.{filter-yes, filter-no, filter-same, all-of}
 use Rattle.kn_guess.proofs.Clique.{Differ, covered-is}
 

@@ -1,21 +1,20 @@
 -- What a group takes: its ids, its clauses, and that they make a group.
-use Rattle.std.proofs.Common.{◌≡◌, ℕ, ◌+◌, ◌≤◌, ◌<◌, ◌==◌, Bool, true, false, not, cond, ◌&&◌, ◌||◌, List, [], ◌∷◌, ◌++◌, length, map, filter, Option, Some, None, refl, sym, ap, ap₂, subst, ◌∙◌, inl, inr, true≢false}
-use Rattle.std.specs.Prelude.{◌⊎◌, option_to_list}
+use Rattle.std.proofs.Common.{◌≡◌, ℕ, ◌≤◌, ◌==◌, Bool, true, false, not, cond, ◌&&◌, ◌||◌, List, [], ◌∷◌, ◌++◌, filter, refl, sym, ap, ap₂, subst, ◌∙◌}
+use Rattle.std.specs.Prelude.{option_to_list}
 use Rattle.std.specs.List.{list_any, flat_map, AllByRecursion}
 use Rattle.std.specs.List.Sorted.{IsStrictlyIncreasing}
-use Rattle.std.proofs.lemmas.Bool.{or_left, or_right, and_parts, eqb-true, eq-eqb}
-use Rattle.std.proofs.lemmas.List.{length-map}
+use Rattle.std.proofs.lemmas.Bool.{or_left, or_right, and_parts, eqb-true}
 use Rattle.std.proofs.lemmas.List.Folds.{list_any-append}
-use Rattle.kn_logic.specs.Literals.{Literal, names, has, is_same}
+use Rattle.kn_logic.specs.Literals.{Literal, names, has}
 use Rattle.kn_logic.specs.Constraints.{Bounded, named, is_clause}
-use Rattle.kn_logic.specs.Groups.{Gathered, is_among, IsGroup}
-use Rattle.kn_store.specs.Stores.{Numbered, Stored, IsStored, constraints_of, ids_of, naming, chosen, constraint_at}
-use Rattle.kn_store.proofs.Public.{all-one, all-two, to-map, all-filter, all-pass, IsOwn, own, Rises, rises}
+use Rattle.kn_logic.specs.Groups.{is_among, IsGroup}
+use Rattle.kn_store.specs.Stores.{Numbered, Stored, IsStored, constraints_of, ids_of, naming, chosen}
+use Rattle.kn_store.proofs.Public.{all-one, all-two, to-map, all-filter, all-pass, IsOwn, own, rises}
 use Rattle.kn_guess.specs.Guesses.{in_klause, touches, stands, is_border, IsBorder}
 use Rattle.kn_guess.specs.Seen.{found, ids_with}
 use Rattle.kn_guess.proofs.Elements.{bool-same, and-both, not-true, false-not, any-with, each-any, any-map, any-filter, all-among, own-among}
 use Rattle.kn_guess.proofs.Rising.{numbers-one, rises-ids}
-use Rattle.kn_guess.proofs.Lives.{IsLive, all-live, clause-named, is-plain, own-names}
+use Rattle.kn_guess.proofs.Lives.{IsLive, all-live, clause-named, is-plain}
 use Rattle.kn_guess.proofs.Bordered.{touches-from, touched, own-has}
 
 any-flat : {X : Type 0} (f : ℕ → Bool) (g : X → List ℕ) (xs : List X) → list_any f (flat_map g xs) ≡ list_any (λ x. list_any f (g x)) xs

@@ -1,16 +1,15 @@
 -- What a walk leaves: sets that have grown, and tables that have shrunk by what gives nothing new.
-use Rattle.std.proofs.Common.{◌≡◌, ℕ, suc, ◌+◌, ◌-◌, ◌≤◌, ◌<◌, ◌==◌, Bool, true, false, not, cond, ◌&&◌, ◌||◌, List, [], ◌∷◌, ◌++◌, length, take, drop, set, get_or, refl, sym, ap, ap₂, subst, ◌∙◌, inl, inr, arith, true≢false}
+use Rattle.std.proofs.Common.{◌≡◌, ℕ, suc, ◌+◌, ◌≤◌, ◌<◌, ◌==◌, Bool, true, false, not, cond, ◌&&◌, ◌||◌, List, [], ◌∷◌, ◌++◌, length, drop, set, get_or, refl, sym, ap, subst, ◌∙◌, inl, inr, arith, true≢false}
 use Rattle.std.specs.Prelude.{◌⊎◌, zero, nat_eq}
-use Rattle.std.specs.List.{list_any, swap_remove, AllByRecursion}
-use Rattle.std.proofs.lemmas.Bool.{or_left, or_right, or_cases, or_parts, and_parts, eqb-true, eqb-false, eq-eqb, ne_eqb, cond-true, cond-false, cases_lt}
-use Rattle.std.proofs.lemmas.List.{length-set, get_or-set_same, get_or-set_other, get_or_past, take_all, drop_all, drop_more, get_or_default, set_past}
+use Rattle.std.specs.List.{list_any, AllByRecursion}
+use Rattle.std.proofs.lemmas.Bool.{or_left, or_right, or_cases, or_parts, and_parts, eqb-true, eqb-false, eq-eqb, cond-true}
+use Rattle.std.proofs.lemmas.List.{length-set, get_or-set_same, get_or-set_other, drop_all, drop_more, get_or_default}
 use Rattle.indexmap.specs.IndexSet.{insert_key}
 use Rattle.kn_logic.specs.Groups.{is_among}
-use Rattle.kn_store.proofs.Public.{all-one, all-two}
-use Rattle.kn_guess.specs.Refusals.{AreApart}
+use Rattle.kn_store.proofs.Public.{all-one}
 use Rattle.kn_guess.specs.Walks.{kept, is_near, Thins, AllThin, Grows, HasAll, IsWithin}
-use Rattle.kn_guess.proofs.Elements.{bool-same, and-both, not-true, any-with, each-any, own-among, all-among, any-among, among-append, among-last}
-use Rattle.kn_guess.proofs.Gathers.{Extends, extends-self, extends-trans, among-extends, apart-end}
+use Rattle.kn_guess.proofs.Elements.{and-both, any-with, each-any, own-among, all-among, any-among, among-append, among-last}
+use Rattle.kn_guess.proofs.Gathers.{extends-self, extends-trans, among-extends, apart-end}
 
 -- sets
 grows-self : (test : ℕ → Bool) (xs : List ℕ) → Grows test xs xs

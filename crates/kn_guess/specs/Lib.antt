@@ -1,6 +1,6 @@
 pub mod Guesses
 pub mod Refusals
-pub mod Growing
+pub mod Gathering
 pub mod Seen
 pub mod Sides
 pub mod Flags

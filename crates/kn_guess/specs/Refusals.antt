@@ -4,7 +4,6 @@ use Rattle.std.specs.List.Sorted.{IsStrictlyIncreasing}
 use Rattle.std.specs.List.{AllByRecursion}
 use Rattle.kn_logic.specs.Constraints.{Bounded}
 use Rattle.kn_logic.specs.Groups.{is_among}
-use Rattle.kn_store.specs.Stores.{Stored, constraints_of}
 use Rattle.kn_guess.specs.declared.error.NoGuess.{NoGuess}
 use Rattle.kn_guess.specs.declared.error.NoGuess.TheVariants.{NotSeed, TooMany, SmallBorder, TooWideBorder, TwoSided, Memory}
 use Rattle.kn_guess.specs.Guesses.{is_seed, IsClosedFrom, IsLeastFrom, touches, is_border}

@@ -1,5 +1,5 @@
 -- What is read of a store.
-use Rattle.std.specs.Prelude.{ℕ, ◌≡◌, ◌≤◌, ◌-◌, not, Bool, true, false, ◌&&◌, ◌||◌, List, [], ◌∷◌, length, Option, Some, None, slice_index_or, option_to_list}
+use Rattle.std.specs.Prelude.{ℕ, ◌≡◌, ◌≤◌, ◌-◌, not, Bool, false, ◌||◌, List, [], ◌∷◌, length, Option, Some, None, slice_index_or, option_to_list}
 use Rattle.std.specs.List.{flat_map}
 use Rattle.kn_logic.specs.Constraints.{Bounded}
 use Rattle.kn_store.specs.Stores.{Numbered, Stored, constraints_of, ids_of, naming, constraint_at}

@@ -1,5 +1,5 @@
 -- Variables of two sets, the positive and the negative side of a border.
-use Rattle.std.specs.Prelude.{ℕ, nat_eq, ◌&&◌, Bool, if◌then◌else◌, List, [], ◌∷◌, Option, Some, None}
+use Rattle.std.specs.Prelude.{ℕ, nat_eq, ◌&&◌, if◌then◌else◌, List, [], ◌∷◌, Option, Some, None}
 use Rattle.std.specs.List.{list_any}
 use Rattle.kn_logic.specs.Literals.{Literal}
 

@@ -1,5 +1,5 @@
 -- How neighbours are looked for in tables that shrink while they are walked.
-use Rattle.std.specs.Prelude.{ℕ, ◌≡◌, ◌≤◌, ◌<◌, ◌-◌, nat_lt, ◌&&◌, ◌||◌, Bool, true, false, List, [], ◌∷◌, ◌++◌, length, slice_index_or}
+use Rattle.std.specs.Prelude.{ℕ, ◌≡◌, ◌≤◌, ◌-◌, nat_lt, ◌&&◌, ◌||◌, Bool, true, false, List, [], ◌++◌, length, slice_index_or}
 use Rattle.std.specs.List.{list_any, AllByRecursion}
 use Rattle.kn_logic.specs.Groups.{is_among}
 use Rattle.kn_guess.specs.Refusals.{AreApart}

@@ -10,7 +10,7 @@ ghost use Rattle.kn_guess.specs.Sides.{first_in_both, sided};
 
 use crate::NoGuess;
 use crate::flag_set::FlagSet;
-use crate::growing::{MOST_BORDER, side};
+use crate::gathering::{MOST_BORDER, side};
 use crate::taking::ascending;
 use crate::var_set::VarSet;
 use kn_logic::{Lit, NoMemory};

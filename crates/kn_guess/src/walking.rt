@@ -9,8 +9,22 @@ ghost use Rattle.kn_guess.specs.Walks.{is_later, is_near, Thins, AllThin, Grows,
 use crate::flag_set::FlagSet;
 use crate::growing::MOST_AUX;
 use crate::numbers::Numbers;
-use crate::pick::Later;
 use kn_logic::NoMemory;
+
+// Variables later than the seed that stand in no klause.
+#[derive(Drop)]
+pub(crate) struct Later<'a> {
+    pub(crate) seed: u64,
+    pub(crate) free: &'a [bool],
+}
+
+impl Later<'_> {
+    fn is_later(&self, var: u64) -> bool
+        ensures { result ≡ is_later self.now.seed self.now.free.now var }
+    {
+        self.seed < var && self.free.get(var as usize - 1).copied().unwrap_or(false)
+    }
+}
 
 // The later variables in the clauses of these ids join a set, until it has more members than its limit. `met` is
 // room for those that the walk has met.

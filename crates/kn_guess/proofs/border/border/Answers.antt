@@ -1,8 +1,6 @@
-use Rattle.std.proofs.Common.{◌≡◌, ◌∙◌, ◌≤◌, ◌<◌, List, ℕ, ap, sym, subst, true, false, filter, length, arith, Some, None, map}
+use Rattle.std.proofs.Common.{◌≡◌, ◌∙◌, ◌≤◌, ap, sym, subst, true, false, length, arith, map}
 use Rattle.std.proofs.lemmas.List.{length-map}
 use Rattle.std.specs.List.{AllByRecursion}
-use Rattle.kn_store.specs.Stores.{Stored, constraints_of}
-use Rattle.kn_guess.specs.Guesses.{touches}
 use Rattle.kn_guess.specs.Sides.{first_in_both, sided}
 use Rattle.kn_guess.proofs.Bordered.{IsSide, IsJudged, taken_by, side-is, wide-positive, wide-negative, wide-both, border-variables, two-sided, border-is, known-variables, border-known}
 use Rattle.kn_guess.proofs.border.border.Goals as goal

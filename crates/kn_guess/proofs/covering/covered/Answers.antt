@@ -1,10 +1,10 @@
-use Rattle.std.proofs.Common.{◌≡◌, ◌≤◌, ◌∙◌, ℕ, List, [], length, map, sym, ap, subst}
+use Rattle.std.proofs.Common.{◌≡◌, ◌≤◌, ◌∙◌, ℕ, List, length, sym, ap, subst}
 use Rattle.std.specs.List.{AllByRecursion}
 use Rattle.std.specs.List.Sorted.{IsStrictlyIncreasing}
 use Rattle.std.proofs.lemmas.List.{length-map}
 use Rattle.kn_logic.specs.Literals.{Literal, IsKnown, AreKnown}
 use Rattle.kn_logic.specs.Constraints.{Bounded}
-use Rattle.kn_logic.specs.Groups.{Gathered, is_among, is_covered, IsGroup}
+use Rattle.kn_logic.specs.Groups.{Gathered, is_among, is_covered}
 use Rattle.kn_store.specs.Stores.{Stored, IsStored, constraints_of, ids_of, chosen}
 use Rattle.kn_store.proofs.Public.{all-one}
 use Rattle.kn_guess.specs.Guesses.{Guessed}

@@ -1,4 +1,4 @@
-use Rattle.std.proofs.Common.{◌≡◌, ◌≤◌, ◌<◌, ◌∙◌, ◌∷◌, List, ℕ, length, sym, ap, subst, arith}
+use Rattle.std.proofs.Common.{◌∙◌, sym, ap, arith}
 use Rattle.std.proofs.lemmas.List.{nil_from_length}
 use Rattle.kn_guess.specs.Tables.{row}
 use Rattle.kn_guess.proofs.Joined.{rest-start, rest-step, rest-less, rest-full, rest-none, rest-known, rest-ascend, rows-ascend}

@@ -1,4 +1,3 @@
-use Rattle.std.proofs.Common.{◌≡◌}
 use Rattle.std.proofs.lemmas.Result.{IfOk-weaker}
 use Rattle.kn_guess.proofs.Marked.{free-seen}
 use Rattle.kn_guess.proofs.marks.free.Goals as goal

@@ -1,4 +1,4 @@
-use Rattle.std.proofs.Common.{◌≡◌, ◌≤◌, ◌+◌, ◌∙◌, ℕ, sym, ap, subst, arith}
+use Rattle.std.proofs.Common.{◌≡◌, ◌+◌, ◌∙◌, sym, ap, subst, arith}
 use Rattle.std.specs.Prelude.{option_copied}
 use Rattle.kn_guess.proofs.Marked.{ArePassed, passed-some, passed-none, passed-all}
 use Rattle.kn_guess.proofs.marks.marked.Goals as goal

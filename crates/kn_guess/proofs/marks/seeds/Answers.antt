@@ -1,4 +1,4 @@
-use Rattle.std.proofs.Common.{◌≡◌, ◌≤◌, ◌<◌, ◌+◌, ◌-◌, ◌&&◌, ◌∙◌, ℕ, Bool, false, length, slice_index_or, sym, ap, ap₂, arith}
+use Rattle.std.proofs.Common.{◌≡◌, ◌+◌, ◌-◌, ◌&&◌, ◌∙◌, Bool, false, length, slice_index_or, ap, ap₂, arith}
 use Rattle.std.proofs.lemmas.List.{length_push}
 use Rattle.kn_store.specs.Stores.{constraints_of}
 use Rattle.kn_guess.specs.Guesses.{is_seed}

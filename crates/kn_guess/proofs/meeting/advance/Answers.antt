@@ -1,7 +1,7 @@
-use Rattle.std.proofs.Common.{◌≡◌, ◌≤◌, ◌<◌, ◌+◌, ◌-◌, ◌∙◌, ℕ, length, nat_lt, true, false, refl, sym, ap, subst, arith}
-use Rattle.std.proofs.lemmas.Bool.{ltb-true, ltb-false}
+use Rattle.std.proofs.Common.{◌+◌, ◌-◌, ◌∙◌, ℕ, length, refl, sym, ap, arith}
+use Rattle.std.proofs.lemmas.Bool.{ltb-true}
 use Rattle.kn_guess.specs.Tables.{rank}
-use Rattle.kn_guess.proofs.Meets.{below-at, here-at, here-end}
+use Rattle.kn_guess.proofs.Meets.{below-at, here-end}
 use Rattle.kn_guess.proofs.meeting.advance.Goals as goal
 
 pub loop-step-preserved : goal.loop-step-preserved

@@ -1,9 +1,9 @@
-use Rattle.std.proofs.Common.{◌≡◌, ◌≤◌, ◌<◌, ◌+◌, ◌++◌, ◌∷◌, [], ◌∙◌, ℕ, List, length, take, drop, filter, get_or, true, false, refl, sym, ap, subst, arith}
+use Rattle.std.proofs.Common.{◌≡◌, ◌<◌, ◌+◌, ◌++◌, ◌∙◌, take, drop, filter, sym, ap, subst}
 use Rattle.std.specs.List.{AllByRecursion}
 use Rattle.kn_store.proofs.Public.{rises}
-use Rattle.kn_guess.specs.Tables.{Paired, rank, ranks}
+use Rattle.kn_guess.specs.Tables.{rank, ranks}
 use Rattle.kn_guess.specs.Pairing.{is_common}
-use Rattle.kn_guess.proofs.Meets.{AreBefore, before-first, before-rest, kept-yes, kept-no, item-cut}
+use Rattle.kn_guess.proofs.Meets.{before-first, before-rest, kept-yes, kept-no, item-cut}
 use Rattle.kn_guess.proofs.meeting.common.Goals as goal
 use Rattle.kn_guess.proofs.meeting.common.Goals.{then-is_met+in_ok-push, else-is_met}
 

@@ -1,6 +1,5 @@
-use Rattle.std.proofs.Common.{◌≡◌, ◌∙◌, ◌==◌, ◌&&◌, sym, ap, ap₂, false, true}
+use Rattle.std.proofs.Common.{◌∙◌, ◌==◌, ◌&&◌, sym, ap, ap₂}
 use Rattle.std.proofs.Math.Bool.{beq}
-use Rattle.kn_logic.specs.Literals.{is_same}
 use Rattle.kn_guess.specs.Tables.{is_left}
 use Rattle.kn_guess.proofs.Elements.{not-true, not-false}
 use Rattle.kn_guess.proofs.Entered.{same-eq}

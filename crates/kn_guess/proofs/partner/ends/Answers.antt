@@ -1,4 +1,4 @@
-use Rattle.std.proofs.Common.{◌≡◌, ◌∙◌, sym, ap}
+use Rattle.std.proofs.Common.{◌∙◌, sym, ap}
 use Rattle.std.specs.Prelude.{option_copied}
 use Rattle.kn_logic.specs.Literals.{is_same}
 use Rattle.kn_guess.proofs.Entered.{ends-at, same-eq}

@@ -1,10 +1,9 @@
-use Rattle.std.proofs.Common.{◌≡◌, ◌≤◌, ◌∙◌, ℕ, List, length, true, false, filter, not, ap, sym, subst, arith}
-use Rattle.std.specs.Prelude.{IfSome}
+use Rattle.std.proofs.Common.{◌≡◌, ◌≤◌, ◌∙◌, ℕ, length, false, filter, ap, sym, subst, arith}
 use Rattle.std.specs.List.{AllByRecursion}
 use Rattle.kn_logic.specs.Groups.{is_among}
 use Rattle.kn_store.specs.Stores.{constraints_of}
-use Rattle.kn_guess.specs.Guesses.{in_klause, touches, IsLeastFrom, IsBorder}
-use Rattle.kn_guess.specs.Refusals.{AreApart, IsBorderRefused}
+use Rattle.kn_guess.specs.Guesses.{in_klause, touches, IsBorder}
+use Rattle.kn_guess.specs.Refusals.{IsBorderRefused}
 use Rattle.kn_guess.proofs.Seeded.{all-same, least-same, refused-border, guess-is}
 use Rattle.kn_guess.proofs.seeds.bordered.Goals as goal
 

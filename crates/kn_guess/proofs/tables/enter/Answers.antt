@@ -1,4 +1,4 @@
-use Rattle.std.proofs.Common.{◌≡◌, ◌≤◌, ◌∙◌, length, arith, get_or, refl}
+use Rattle.std.proofs.Common.{arith, get_or, refl}
 use Rattle.std.proofs.lemmas.List.{length-set}
 use Rattle.kn_guess.proofs.Built.{enter-among, enter-placed}
 use Rattle.kn_guess.proofs.tables.enter.Goals as goal

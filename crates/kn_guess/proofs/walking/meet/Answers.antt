@@ -1,7 +1,7 @@
-use Rattle.std.proofs.Common.{◌≡◌, ◌≤◌, ◌<◌, ◌+◌, ◌-◌, ◌∙◌, ◌==◌, ◌||◌, ℕ, Bool, length, sym, ap, arith, true, false, refl}
+use Rattle.std.proofs.Common.{◌-◌, ◌∙◌, ◌==◌, ◌||◌, sym, ap, arith, refl}
 use Rattle.kn_logic.specs.Groups.{is_among}
 use Rattle.kn_guess.specs.Walks.{is_later}
-use Rattle.kn_guess.proofs.Walked.{IsMeeting, IsJoin, meeting-start, meeting-drop, meeting-join, meeting-full, meeting-all, meeting-none}
+use Rattle.kn_guess.proofs.Walked.{IsJoin, meeting-start, meeting-drop, meeting-join, meeting-full, meeting-all, meeting-none}
 use Rattle.kn_guess.proofs.walking.meet.Goals as goal
 
 pub loop-at-init : goal.loop-at-init

@@ -1,5 +1,4 @@
-use Rattle.std.proofs.Common.{◌≡◌, ◌≤◌, ◌<◌, ◌+◌, ◌-◌, ◌∙◌, ◌==◌, ◌||◌, ℕ, List, length, sym, ap, arith, true, false, refl, subst}
-use Rattle.kn_logic.specs.Groups.{is_among}
+use Rattle.std.proofs.Common.{◌≡◌, ◌+◌, ◌-◌, sym, arith, refl, subst}
 use Rattle.kn_guess.specs.Walks.{is_later}
 use Rattle.kn_guess.proofs.Walked.{IsVisit, IsWalking, set_of, walking-start, place-low, read-is, visit-members, visit-stays, visit-grows, walking-found, walking-drop, walking-all}
 use Rattle.kn_guess.proofs.walking.walk.Goals as goal

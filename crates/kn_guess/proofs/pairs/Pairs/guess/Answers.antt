@@ -1,4 +1,4 @@
-use Rattle.std.proofs.Common.{◌≡◌, ◌≤◌, ◌<◌, ◌∙◌, ℕ, List, length, sym, ap, subst, arith}
+use Rattle.std.proofs.Common.{arith}
 use Rattle.kn_guess.proofs.Clique.{first-known, binary-pair, group-known, group-different, guess-of-cover, pair-group-is, no-group-few, no-group-none}
 use Rattle.kn_guess.proofs.pairs.Pairs.guess.Goals as goal
 

@@ -1,9 +1,8 @@
-use Rattle.std.proofs.Common.{◌≡◌, ◌≤◌, ◌<◌, ◌+◌, ◌++◌, ◌∙◌, ℕ, List, length, take, drop, sym, ap, ap₂, subst, arith, true, false, get_or, []}
+use Rattle.std.proofs.Common.{◌≡◌, ◌+◌, ◌++◌, ◌∙◌, length, take, drop, sym, ap, ap₂, subst, arith, true, false}
 use Rattle.kn_store.specs.Stores.{ids_of, naming}
-use Rattle.kn_guess.specs.Tables.{PairTable}
 use Rattle.kn_guess.specs.Pairing.{all_entered}
 use Rattle.kn_guess.proofs.Joined.{cands, of-variable}
-use Rattle.kn_guess.proofs.Entered.{IsMade, made-first, made-variable, made-last, all-long, whole}
+use Rattle.kn_guess.proofs.Entered.{IsMade, made-variable, made-last, all-long, whole}
 use Rattle.kn_guess.proofs.pairs.Pairs.new.Goals as goal
 
 pub loop-place-preserved : goal.loop-place-preserved

@@ -1,4 +1,3 @@
-use Rattle.kn_store.specs.Stores.{IsStored}
 use Rattle.kn_guess.proofs.Joined.{cands}
 use Rattle.kn_guess.proofs.Entered.{IsMade}
 use Rattle.kn_guess.proofs.pairs.Pairs.new.Given as goal

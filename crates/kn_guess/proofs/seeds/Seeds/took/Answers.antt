@@ -1,5 +1,4 @@
-use Rattle.std.proofs.Common.{◌≡◌, ◌≤◌, ◌∙◌, Bool, List, ℕ, map, sym, ap, ap₂, subst}
-use Rattle.std.specs.List.{AllByRecursion}
+use Rattle.std.proofs.Common.{◌∙◌, map, ap, ap₂}
 use Rattle.kn_logic.specs.Literals.{Literal}
 use Rattle.kn_guess.specs.Flags.{lowered}
 use Rattle.kn_guess.specs.Tables.{SeedTable}

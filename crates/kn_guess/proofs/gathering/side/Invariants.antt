@@ -1,7 +1,7 @@
 use Rattle.std.proofs.Common.{◌≡◌, ◌≤◌, drop, []}
 use Rattle.std.specs.List.{AllByRecursion}
-use Rattle.kn_guess.specs.Growing.{with_members, outside_key}
-use Rattle.kn_guess.proofs.growing.side.Given as goal
+use Rattle.kn_guess.specs.Gathering.{with_members, outside_key}
+use Rattle.kn_guess.proofs.gathering.side.Given as goal
 
 abbrev pub invariant-loop-member : goal.invariant-loop-member
 invariant-loop-member l = record {

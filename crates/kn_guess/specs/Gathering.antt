@@ -1,5 +1,5 @@
 -- How a set is gathered from the literals of constraints, up to one more than a limit.
-use Rattle.std.specs.Prelude.{ℕ, ◌≡◌, ◌-◌, ◌<◌, nat_lt, nat_eq, not, ◌&&◌, Bool, false, if◌then◌else◌, List, [], ◌∷◌, length, Option, Some, None, slice_index_or}
+use Rattle.std.specs.Prelude.{ℕ, nat_lt, nat_eq, not, ◌&&◌, Bool, if◌then◌else◌, List, [], ◌∷◌, length, Option, Some, None}
 use Rattle.indexmap.specs.IndexSet.{insert_key}
 use Rattle.kn_logic.specs.Literals.{Literal}
 use Rattle.kn_logic.specs.Constraints.{Bounded}
@@ -27,10 +27,6 @@ with_ids limit key live set (id ∷ ids) = with_ids limit key live (with_found l
 abbrev pub with_members : ℕ → (Literal → Option ℕ) → List Numbered → List ℕ → List ℕ → List ℕ
 with_members limit key live set [] = set
 with_members limit key live set (x ∷ xs) = with_members limit key live (with_ids limit key live set (ids_of (naming x live))) xs
-
--- a variable that is later than the seed and free, by a table of the free ones
-abbrev pub later_key : ℕ → List Bool → Literal → Option ℕ
-later_key seed free l = if nat_lt seed l.variable && slice_index_or free (l.variable - 1) false then Some l.variable else None
 
 -- a variable outside a set, in one polarity
 abbrev pub outside_key : List ℕ → Bool → Literal → Option ℕ

@@ -1,8 +1,8 @@
-use Rattle.std.proofs.Common.{◌∙◌, ◌+◌, ◌≤◌, sym, ap, subst, drop, get_or, []}
+use Rattle.std.proofs.Common.{◌∙◌, ◌+◌, ◌≤◌, sym, ap, subst, drop}
 use Rattle.std.specs.List.{AllByRecursion}
 use Rattle.std.proofs.lemmas.List.{drop_more}
-use Rattle.kn_guess.specs.Growing.{with_ids, with_members, outside_key}
-use Rattle.kn_guess.proofs.growing.side.Goals as goal
+use Rattle.kn_guess.specs.Gathering.{with_ids, with_members, outside_key}
+use Rattle.kn_guess.proofs.gathering.side.Goals as goal
 
 pub loop-member-preserved : goal.loop-member-preserved
 loop-member-preserved c =
