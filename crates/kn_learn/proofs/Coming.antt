@@ -14,8 +14,8 @@ use Rattle.kn_learn.specs.declared.marks.Mark.{Mark}
 use Rattle.kn_learn.specs.declared.marks.Mark.TheVariants.{Unseen, Seen, Pending, Explained, Failed}
 use Rattle.kn_learn.specs.declared.analysis.Walk.{Walk}
 use Rattle.kn_learn.specs.Reasons.{contains}
-use Rattle.kn_learn.specs.Marking.{mark_at, is_seen}
-use Rattle.kn_learn.specs.Analyses.{IsNeeded, AreNeeded, IsRested, IsLower, IsTop, AreOnce, IsFound, IsWalking, IsBlank}
+use Rattle.kn_learn.specs.Marking.{mark_at, is_needed, is_seen}
+use Rattle.kn_learn.specs.Analyses.{IsNeeded, AreNeeded, IsRested, IsRemovable, IsLower, IsTop, AreOnce, IsFound, IsWalking, IsBlank}
 use Rattle.kn_learn.proofs.Lists.{contains-push, contains-last}
 use Rattle.kn_learn.proofs.Needing.{found-at}
 use Rattle.kn_learn.proofs.Places.{there-is, at-length}
@@ -98,16 +98,35 @@ rested-by t read live marks place id o same less reads is rests =
     let (m, at) = there-is t.made place less in
     (m, id, at, sym (reads m (subst (λ (x : Trailed). slice_get x.made place ≡ Some m) (sym same) at)) ∙ is, rests)
 
--- a place above the lowest one of the present level was not assumed
-pub not-assumed : (g : Engined) (lowest place : ℕ) (o : Option ℕ) → IsEngine g → IsTop g.trail lowest → lowest < place → place < length g.trail.made → ((m : Made) → slice_get g.trail.made place ≡ Some m → o ≡ m.reason) → o ≡ None → ⊥
-not-assumed g lowest place o engine (b, low, top) above less read is =
-    let (m, at) = there-is g.trail.made place less in
-    let none : m.reason ≡ None = sym (read m at) ∙ is in
-    omega (arith, engine.assumed place lowest m b at none low above, engine.levels place m at, top)
-
-pub none-from : (o : Option ℕ) → ((x : ℕ) → o ≡ Some x → ⊥) → o ≡ None
+none-from : (o : Option ℕ) → ((x : ℕ) → o ≡ Some x → ⊥) → o ≡ None
 none-from None h = refl
 none-from (Some x) h = absurd (h x refl)
+
+-- a place above the lowest one of the present level was not assumed
+pub not-assumed : (g : Engined) (read : Trailed) (lowest place : ℕ) (o : Option ℕ) → IsEngine g → read ≡ g.trail → IsTop g.trail lowest → lowest < place → place < length g.trail.made → ((m : Made) → slice_get read.made place ≡ Some m → o ≡ m.reason) → ((x : ℕ) → o ≡ Some x → ⊥) → ⊥
+not-assumed g read lowest place o engine same (b, low, top) above less reads none =
+    let (m, at) = there-is g.trail.made place less in
+    let is : m.reason ≡ None = sym (reads m (subst (λ (x : Trailed). slice_get x.made place ≡ Some m) (sym same) at)) ∙ none-from o none in
+    omega (arith, engine.assumed place lowest m b at is low above, engine.levels place m at, top)
+
+-- nor was one of level 0
+pub not-assumed_at_root : (g : Engined) (read : Trailed) (place : ℕ) (o : Option ℕ) → IsEngine g → read ≡ g.trail → g.trail.level ≡ 0 → place < length g.trail.made → ((m : Made) → slice_get read.made place ≡ Some m → o ≡ m.reason) → ((x : ℕ) → o ≡ Some x → ⊥) → ⊥
+not-assumed_at_root g read place o engine same root less reads none =
+    let (m, at) = there-is g.trail.made place less in
+    let is : m.reason ≡ None = sym (reads m (subst (λ (x : Trailed). slice_get x.made place ≡ Some m) (sym same) at)) ∙ none-from o none in
+    omega (arith, engine.assumed_above place m at is, engine.levels place m at, root)
+
+-- nor one that is explained
+pub not-removable : (t read : Trailed) (place : ℕ) (o : Option ℕ) → read ≡ t → IsRemovable t place → ((m : Made) → slice_get read.made place ≡ Some m → o ≡ m.reason) → ((x : ℕ) → o ≡ Some x → ⊥) → ⊥
+not-removable t read place o same (m, id, at, is, lower) reads none = none id (reads m (subst (λ (x : Trailed). slice_get x.made place ≡ Some m) (sym same) at) ∙ is)
+
+-- what is needed and was not seen is derived, where nothing is left
+pub unseen-derived : (w : Walk) (place p : ℕ) (m : Mark) → is_seen m ≡ false → is_needed m ≡ true → IsFound w p [] place m → contains w.derived.items place ≡ true
+unseen-derived w place p Unseen s n h = absurd cc
+unseen-derived w place p Seen s n h = absurd cc
+unseen-derived w place p Pending s n h = elim h [ inl k ↦ k | inr k ↦ absurd cc ]
+unseen-derived w place p Explained s n h = absurd cc
+unseen-derived w place p Failed s n h = absurd cc
 
 -- the literals of a live constraint
 pub listed-of : (lits : List Literal) (o : Option Bounded) (c : Bounded) → Some lits ≡ option_map listed o → o ≡ Some c → lits ≡ listed c

@@ -1,5 +1,5 @@
 -- Lists of places.
-use Rattle.std.proofs.Common.{◌≡◌, ℕ, zero, suc, ◌+◌, ◌≤◌, ◌<◌, ◌⊎◌, ◌++◌, Bool, true, false, cond, eqb, List, [], ◌∷◌, length, take, get_or, refl, sym, ap, subst, inl, inr, arith}
+use Rattle.std.proofs.Common.{◌∙◌, ◌≡◌, ℕ, zero, suc, ◌+◌, ◌≤◌, ◌<◌, ◌⊎◌, ◌++◌, Bool, true, false, cond, eqb, List, [], ◌∷◌, length, take, get_or, refl, sym, ap, subst, inl, inr, arith}
 use Rattle.std.specs.List.{AllByRecursion, filter}
 use Rattle.std.specs.List.Sorted.{IsPermutation, IsNonDecreasing}
 use Rattle.std.proofs.lemmas.Bool.{or_cases, or_left, or_right, or_parts, eqb-true, eq-eqb, cases_Bool, cases_lt}
@@ -50,6 +50,10 @@ pub all-at : (P : ℕ → Type 0) (ps : List ℕ) (k d : ℕ) → AllByRecursion
 all-at P [] k d h less = absurd (omega (arith, less))
 all-at P (x ∷ ps) zero d h less = h.0
 all-at P (x ∷ ps) (suc k) d h less = all-at P ps k d h.1 (omega (arith, less))
+
+-- what holds of each place holds of one that is read of the same places
+pub at-same : (P : ℕ → Type 0) (old new : List ℕ) (k x : ℕ) → new ≡ old → k < length old → x ≡ get_or new k x → AllByRecursion P old → P x
+at-same P old new k x same less is h = subst P (sym (is ∙ ap (λ (ps : List ℕ). get_or ps k x) same)) (all-at P old k x h less)
 
 pub all-more : (P Q : ℕ → Type 0) (ps : List ℕ) → ((q : ℕ) → P q → Q q) → AllByRecursion P ps → AllByRecursion Q ps
 all-more P Q [] h all = tt

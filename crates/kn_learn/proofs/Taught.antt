@@ -294,3 +294,7 @@ rest-lower t w h = all-filter (IsLower t) (λ p. is_seen (mark_at w.marks p)) w.
 -- the conflict of the last step
 pub conflict-of : (g : Engined) (id : ℕ) → IsEngine g → g.last ≡ Some (Conflict id) → IsConflict g id
 conflict-of g id engine is = subst (HasStepped g) is engine.stepped
+
+pub negations-last : (made : List Made) (ps : List ℕ) (p : ℕ) (m : Made) (l : Literal) → slice_get made p ≡ Some m → l ≡ negated m.lit → negations_at made ps ++ l ∷ [] ≡ negations_at made (ps ++ p ∷ [])
+negations-last made [] p m l at is = ap (λ (x : Literal). x ∷ []) (is ∙ ap negated (sym (lit-is made p m at)))
+negations-last made (q ∷ ps) p m l at is = ap (λ (ls : List Literal). negated (lit_or (slice_get made q)) ∷ ls) (negations-last made ps p m l at is)

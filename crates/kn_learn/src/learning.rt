@@ -126,9 +126,17 @@ fn choose(walk: &Walk, rest: &mut Vec<usize>) -> Result<(), NoMemory>
 {
     rest.clear();
     for place in &walk.kept {
-        if walk.marks.at(*place).is_seen() {
-            rest.push(*place)?;
-        }
+        choose_one(walk, rest, *place)?;
+    }
+    Ok(())
+}
+
+// adds a kept place, if it stands in the clause
+fn choose_one(walk: &Walk, rest: &mut Vec<usize>, place: usize) -> Result<(), NoMemory>
+    ensures { OnOk result (rest.new.items ≡ rest.old.items ++ rest_of walk.now.marks (place ∷ [])) }
+{
+    if walk.marks.at(place).is_seen() {
+        rest.push(place)?;
     }
     Ok(())
 }

@@ -58,7 +58,10 @@ fn note(
     let Some(place) = false_before(trail, lit, before) else {
         return Ok(());
     };
-    if marks.at(place).is_needed() || level_at(trail, place) == 0 {
+    if marks.at(place).is_needed() {
+        return Ok(());
+    }
+    if level_at(trail, place) == 0 {
         return Ok(());
     }
     seen.push(lit_at(trail, place).var())?;

@@ -146,13 +146,25 @@ fn is_promising(a: &mut Analysis, level: u64, top: u64) -> bool
         return false;
     }
     if level > 0 {
-        return a.levels & level_bit(level) != 0;
+        return has_level(a.levels, level);
     }
-    if a.cone == 0 {
-        return false;
+    take_one(&mut a.cone)
+}
+
+// whether the bit of a level is among these
+fn has_level(levels: u64, level: u64) -> bool {
+    levels & level_bit(level) != 0
+}
+
+// takes one of what is left; whether there was one
+fn take_one(left: &mut u64) -> bool {
+    match left.checked_sub(1) {
+        Some(less) => {
+            *left = less;
+            true
+        }
+        None => false,
     }
-    a.cone -= 1;
-    true
 }
 
 // whether a place is of level 0 and another is not
