@@ -23,3 +23,4 @@ pub mod CountLemmas
 pub mod KnownLemmas
 pub mod MakingLemmas
 pub mod MadeLemmas
+pub mod SmallLemmas
