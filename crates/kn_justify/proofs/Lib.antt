@@ -31,3 +31,4 @@ pub mod PairBorderLemmas
 pub mod PairClosingLemmas
 pub mod PairTestLemmas
 pub mod MadeLemmas
+pub mod SmallLemmas

@@ -19,6 +19,8 @@ mod quantified;
 mod settling;
 mod side;
 mod stages;
+#[cfg(test)]
+mod tests;
 mod units;
 
 pub use clauses::clause_unit;
