@@ -31,4 +31,3 @@ pub mod PairBorderLemmas
 pub mod PairClosingLemmas
 pub mod PairTestLemmas
 pub mod MadeLemmas
-pub mod SmallLemmas

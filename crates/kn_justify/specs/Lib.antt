@@ -5,7 +5,6 @@ pub mod Definitions
 pub mod Names
 pub mod Lemmas
 pub mod Chains
-pub mod Small
 pub mod Stages
 pub mod Counts
 pub mod Taken

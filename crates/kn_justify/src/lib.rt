@@ -19,8 +19,6 @@ mod quantified;
 mod settling;
 mod side;
 mod stages;
-#[cfg(test)]
-mod tests;
 mod units;
 
 pub use clauses::clause_unit;
