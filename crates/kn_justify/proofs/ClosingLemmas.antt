@@ -152,6 +152,10 @@ pub such-plain-not : (k : Bounded) (ids : List ℕ) (old new : Logged) (w w' : O
 such-plain-not k ids old new w w' Fault (lines, last, p, f) = (lines, last, plain-justifying k ids (lines ++ last ∷ []) p, f)
 such-plain-not k ids old new w w' Memory (lines, p, f) = (lines, plain-justifying k ids lines p, f)
 
+pub such-plain : {T : Type 0} (k : Bounded) (ids : List ℕ) (old new : Logged) (w w' : Option (List ℕ)) (r : Result T LogError) → LogsSuch ArePlain old new w w' r → LogsSuch (AreJustifying k ids) old new w w' r
+such-plain k ids old new w w' (Ok x) (lines, p, h) = (lines, plain-justifying k ids lines p, h)
+such-plain k ids old new w w' (Err e) h = such-plain-not k ids old new w w' e h
+
 -- the lines that close it come behind plain ones
 pub closing-behind : {T : Type 0} (k : Bounded) (ids : List ℕ) (old mid new : Logged) (w v u : Option (List ℕ)) (r : Result T LogError) → AddsSuch ArePlain old mid w v → LogsSuch (AreClosing k ids) mid new v u r → LogsSuch (AreJustifying k ids) old new w u r
 closing-behind k ids old mid new w v u r (front, p, h) last =
