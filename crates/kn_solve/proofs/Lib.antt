@@ -1,2 +1,0 @@
-mod LiveLemmas
-mod SolvingLemmas
