@@ -122,8 +122,8 @@ half-true : (given : List Given) (d : Table) (names : List (ℕ × Name)) (lits 
 half-true given d names lits f node hints b ok two c e =
     canonical d ok (half d node b) 1 (half-there d node b ok c.there two) (omega arith)
     (λ v. half-function d node b v ok c.there two ∙ c.function (with_value v (slice_index d.order (depth_of d node)) b)
-        ∙ true_has (with_value v (slice_index d.order (depth_of d node)) b) c.rest _ e (own_true v (slice_index d.order (depth_of d node)) b)
-        ∙ sym ((has_nodes d ok).yes v))
+    ∙ true_has (with_value v (slice_index d.order (depth_of d node)) b) c.rest _ e (own_true v (slice_index d.order (depth_of d node)) b)
+    ∙ sym ((has_nodes d ok).yes v))
 
 not_same : (p b : Bool) → (p ≡ b → ⊥) → p ≡ not b
 not_same true true h = absurd (h refl)
@@ -138,7 +138,7 @@ with_parts l x b e f = λ i. record { variable = e i; positive = f i }
 only_one : (given : List Given) (d : Table) (names : List (ℕ × Name)) (lits : List Literal) (f node : ℕ) (hints : List ℕ) (b : Bool) → IsTable d → 2 ≤ node → (c : Chain given d names lits f node hints) → half d node b ≡ 1 → (l : Literal) → has c.rest l ≡ true → l.variable ≡ slice_index d.order (depth_of d node) → l.positive ≡ not (not b)
 only_one given d names lits f node hints b ok two c e l m x =
     not_same l.positive (not b) (λ p. halves-differ d node b ok c.there two e
-        (half-true given d names lits f node hints (not b) ok two c (subst (λ (y : Literal). has c.rest y ≡ true) (with_parts l _ (not b) x p) m)))
+    (half-true given d names lits f node hints (not b) ok two c (subst (λ (y : Literal). has c.rest y ≡ true) (with_parts l _ (not b) x p) m)))
 
 -- the place of a definition's clause that goes up from a half
 abbrev pub up : Bool → ℕ
@@ -206,7 +206,7 @@ chain-step s d names lits f node hints n b ok r two is c e =
     let (as2, e2, h2) = up-settled s d names node n (not b) r two is in
     let arm_is : arm_at names (half d node b) ≡ arm.True = ap (λ (k : ℕ). arm_at names k) e in
     let goes : (run : Option (List Literal)) → IsSound run → Has run (opposite (arm_at names f)) → Twice as1 as2 (run_on run c.cs) (arm.Lit (record { variable = x; positive = not b })) (opposite (arm_at names (half d node (not b)))) =
-        λ run k m. two_hints (arm_at names node) (arm.Lit (record { variable = x; positive = not b })) (arm_at names (half d node b)) (arm_at names (half d node (not b))) as1 as2 (run_on run c.cs) h1 h2 arm_is (c.sound run k) (c.next run k m) in
+    λ run k m. two_hints (arm_at names node) (arm.Lit (record { variable = x; positive = not b })) (arm_at names (half d node b)) (arm_at names (half d node (not b))) as1 as2 (run_on run c.cs) h1 h2 arm_is (c.sound run k) (c.next run k m) in
     record {
       cs = c.cs ++ (as1 ++ as2);
       live = hinted-append s.given hints ((n.id + up b) ∷ (n.id + up (not b)) ∷ []) c.cs (as1 ++ as2) c.live (hinted-append s.given ((n.id + up b) ∷ []) ((n.id + up (not b)) ∷ []) as1 as2 e1 e2);
@@ -240,20 +240,22 @@ clause-conflict lits (Some trail) h =
 
 pub chain-ends : (s : ProofState) (d : Table) (names : List (ℕ × Name)) (lits : List Literal) (f : ℕ) (hints : List ℕ) (id : ℕ) → IsTable d → live_at s.given id ≡ Some (clause lits) → Chain s.given d names lits f 0 hints → Refuted s.given (hints ++ id ∷ []) (arm_at names f ∷ [])
 chain-ends s d names lits f hints id ok live c =
-    let none : (v : ℕ → Bool) → list_any (is_true_by v) c.rest ≡ false = λ v. sym (c.function v) ∙ (has_nodes d ok).no v in
-    (c.cs ++ clause lits ∷ [],
-    hinted-append s.given hints (id ∷ []) c.cs (clause lits ∷ []) c.live (rw live refl),
-    λ run k m. run-append c.cs (clause lits ∷ []) run ∙ clause-conflict lits (run_on run c.cs) (all_refuted (run_on run c.cs) lits (λ l g. is_refuted c.rest l (run_on run c.cs) none (c.refuted run k m.0 l g))))
+    let none : (v : ℕ → Bool) → list_any (is_true_by v) c.rest ≡ false = λ v. sym (c.function v) ∙ (has_nodes d ok).no v in (
+      c.cs ++ clause lits ∷ [],
+      hinted-append s.given hints (id ∷ []) c.cs (clause lits ∷ []) c.live (rw live refl),
+      λ run k m. run-append c.cs (clause lits ∷ []) run ∙ clause-conflict lits (run_on run c.cs) (all_refuted (run_on run c.cs) lits (λ l g. is_refuted c.rest l (run_on run c.cs) none (c.refuted run k m.0 l g))),
+    )
 
 -- at the end: the node is a constant
 pub chain-refutes : (s : ProofState) (d : Table) (names : List (ℕ × Name)) (lits : List Literal) (f node : ℕ) (hints all : List ℕ) (id : ℕ) (arms : List Arm) → IsTable d → live_at s.given id ≡ Some (clause lits) → Chain s.given d names lits f node hints → node < 2 → all ≡ hints ++ id ∷ [] → arms ≡ arm_at names f ∷ [] → Refuted s.given all arms
 chain-refutes s d names lits f zero hints all id arms ok live c h e g =
     subst (λ (x : List ℕ). Refuted s.given x arms) (sym e) (subst (λ (x : List Arm). Refuted s.given (hints ++ id ∷ []) x) (sym g) (chain-ends s d names lits f hints id ok live c))
 chain-refutes s d names lits f (suc zero) hints all id arms ok live c h e g =
-    subst (λ (x : List ℕ). Refuted s.given x arms) (sym e) (subst (λ (x : List Arm). Refuted s.given (hints ++ id ∷ []) x) (sym g)
-    (c.cs ++ clause lits ∷ [],
-    hinted-append s.given hints (id ∷ []) c.cs (clause lits ∷ []) c.live (rw live refl),
-    λ run k m. run-append c.cs (clause lits ∷ []) run ∙ ended (run_on run c.cs) (clause lits ∷ []) (c.next run k m.0)))
+    subst (λ (x : List ℕ). Refuted s.given x arms) (sym e) (subst (λ (x : List Arm). Refuted s.given (hints ++ id ∷ []) x) (sym g) (
+      c.cs ++ clause lits ∷ [],
+      hinted-append s.given hints (id ∷ []) c.cs (clause lits ∷ []) c.live (rw live refl),
+      λ run k m. run-append c.cs (clause lits ∷ []) run ∙ ended (run_on run c.cs) (clause lits ∷ []) (c.next run k m.0),
+    ))
   where
     ended : (o : Option (List Literal)) (cs : List Bounded) → Has o arm.False → run_on o cs ≡ None
     ended None cs h = refl

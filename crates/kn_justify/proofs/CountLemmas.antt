@@ -164,9 +164,9 @@ klause-steps s d names front lits bound f unit n ok h k low top known is live =
     let arm_is = arm_named names f n two is in
     let positive = right.defined.positive in
     let stands : stands_for (definition_of s) lits bound (arm.Lit (positive_of n.lit.variable)) ≡ true =
-        subst (λ (l : Literal). stands_for (definition_of s) lits bound (arm.Lit l) ≡ true) (positive-is n.lit positive)
-        (subst (λ (a : Arm). stands_for (definition_of s) lits bound a ≡ true) arm_is (count-stands s d names lits front bound f ok h k)) in
+    subst (λ (l : Literal). stands_for (definition_of s) lits bound (arm.Lit l) ≡ true) (positive-is n.lit positive)
+    (subst (λ (a : Arm). stands_for (definition_of s) lits bound a ≡ true) arm_is (count-stands s d names lits front bound f ok h k)) in
     let unit_live : live_at s.given unit ≡ Some (clause (n.lit ∷ [])) = live.1 ∙ ap (λ (a : Arm). Some (clause (literals_of (a ∷ [])))) arm_is in
     let is_ok = cond-true _ (if_unit s bound lits n.lit.variable (live_at s.given unit)) (Err 3) (and_from _ _ known (and_from _ _ (le-leb _ _ right.defined.known.0) (le-leb _ _ right.defined.known.1)))
-        ∙ four s bound lits n.lit.variable (live_at s.given unit) (clause (n.lit ∷ [])) unit_live (different-is lits h.different) stands (unit-is n.lit positive) in
+    ∙ four s bound lits n.lit.variable (live_at s.given unit) (clause (n.lit ∷ [])) unit_live (different-is lits h.different) stands (unit-is n.lit positive) in
     subst (λ (r : Result ProofState ℕ). IsOk r) (sym is_ok) refl

@@ -212,8 +212,8 @@ child-high given d names side lemmas m p q depth found id at ok h o j ep eq ef i
     let there = found-joined given d names side lemmas p q id j (sym ef ∙ is) in
     subst (λ (x : ℕ). Settled given (option_to_list id) (pair_arms names (high_met d x (seen side m)))) (sym at)
     (high_at_depth given d names side m id ok h o
-        (subst (λ (x : ℕ). IsJoined given d names side ((x, high_at d (depth_at d m) m.v), id)) (ep ∙ ap (λ (x : ℕ). high_at d x m.u) at)
-        (subst (λ (x : ℕ). IsJoined given d names side ((p, x), id)) (eq ∙ ap (λ (x : ℕ). high_at d x m.v) at) there)))
+    (subst (λ (x : ℕ). IsJoined given d names side ((x, high_at d (depth_at d m) m.v), id)) (ep ∙ ap (λ (x : ℕ). high_at d x m.u) at)
+    (subst (λ (x : ℕ). IsJoined given d names side ((p, x), id)) (eq ∙ ap (λ (x : ℕ). high_at d x m.v) at) there)))
 
 pub child-low : (given : List Given) (d : Table) (names : List (ℕ × Name)) (side : Side) (lemmas : List ((ℕ × ℕ) × Option ℕ)) (m : Met) (p q depth : ℕ) (found : Option (Option ℕ)) (id : Option ℕ) → depth ≡ depth_at d m → IsTable d
     → IsRight (joined side) d m → IsOpen m → AreJoined given d names side lemmas → p ≡ low_at d depth m.u → q ≡ low_at d depth m.v → found ≡ lemma_of lemmas p q → found ≡ Some id
@@ -222,5 +222,5 @@ child-low given d names side lemmas m p q depth found id at ok h o j ep eq ef is
     let there = found-joined given d names side lemmas p q id j (sym ef ∙ is) in
     subst (λ (x : ℕ). Settled given (option_to_list id) (pair_arms names (low_met d x (seen side m)))) (sym at)
     (low_at_depth given d names side m id ok h o
-        (subst (λ (x : ℕ). IsJoined given d names side ((x, low_at d (depth_at d m) m.v), id)) (ep ∙ ap (λ (x : ℕ). low_at d x m.u) at)
-        (subst (λ (x : ℕ). IsJoined given d names side ((p, x), id)) (eq ∙ ap (λ (x : ℕ). low_at d x m.v) at) there)))
+    (subst (λ (x : ℕ). IsJoined given d names side ((x, low_at d (depth_at d m) m.v), id)) (ep ∙ ap (λ (x : ℕ). low_at d x m.u) at)
+    (subst (λ (x : ℕ). IsJoined given d names side ((p, x), id)) (eq ∙ ap (λ (x : ℕ). low_at d x m.v) at) there)))

@@ -112,8 +112,8 @@ at_depth d front l lits j f ok h low top (inr n) =
     let same : high_at d (length front) f ≡ low_at d (length front) f = cond-false _ (high_of d f) f t ∙ sym (cond-false _ (low_of d f) f t) in
     let (v, c) = some_values lits (j - 1) h.different.1 (omega arith) in
     absurd (differs l.positive j low
-        (ap (λ (k : ℕ). nat_le j (adds l true + k)) (sym c) ∙ sym (high_counts d front l lits j f v ok h) ∙ ap (λ (x : ℕ). function_of d x v) same
-            ∙ low_counts d front l lits j f v ok h ∙ ap (λ (k : ℕ). nat_le j (adds l false + k)) c))
+    (ap (λ (k : ℕ). nat_le j (adds l true + k)) (sym c) ∙ sym (high_counts d front l lits j f v ok h) ∙ ap (λ (x : ℕ). function_of d x v) same
+    ∙ low_counts d front l lits j f v ok h ∙ ap (λ (k : ℕ). nat_le j (adds l false + k)) c))
 
 -- the kinds of nodes
 cell_true : (n j : ℕ) → j ≡ 0 → cell_of n 1 j ≡ cell.True
@@ -220,8 +220,8 @@ inner s d names front l lits j f ok h k low top ih =
     let variable : variable_of (arm.Lit n.lit) ≡ Some n.lit.variable = cond-true _ (Some n.lit.variable) None r.defined.positive in
     subst (λ (a : Arm). stands_for (definition_of s) (l ∷ lits) j a ≡ true) (sym (arm_named names f n two is))
     (stands_inner (cell_of (length (l ∷ lits)) 1 j) (splits (stands_for (definition_of s) lits) l j) (led_to (definition_of s) (variable_of (arm.Lit n.lit))) _ (arm.Lit n.lit)
-        (cell_inner (length (l ∷ lits)) j low (omega (arith, top))) (ap (led_to (definition_of s)) variable ∙ r.defined.definition)
-        (goes_on_at (stands_for (definition_of s) lits) l j (slice_index d.order (depth_of d f)) (arm_at names (high_of d f)) (arm_at names (low_of d f)) l.positive refl test hh kk))
+    (cell_inner (length (l ∷ lits)) j low (omega (arith, top))) (ap (led_to (definition_of s)) variable ∙ r.defined.definition)
+    (goes_on_at (stands_for (definition_of s) lits) l j (slice_index d.order (depth_of d f)) (arm_at names (high_of d f)) (arm_at names (low_of d f)) l.positive refl test hh kk))
 
 none_at : (s : ProofState) (d : Table) (names : List (ℕ × Name)) (front : List ℕ) (j f : ℕ) → IsTable d → IsCount d front [] j f → ((j ≡ 0) ⊎ (j ≡ 0 → ⊥)) → stands_for (definition_of s) [] j (arm_at names f) ≡ true
 none_at s d names front j f ok h (inl e) = stands_true names (cell_of 0 1 j) _ _ f (cell_true 0 j e) (always d front [] j f ok h e)

@@ -44,14 +44,17 @@ all-more old new ms i m k h b e named =
 
 pub named-entries : (s : ProofState) (d : Table) (names : List (ℕ × Name)) (ms : List Met) → AreRight s d names → AreThere d ms → AreAllNamed names ms → AreNamed s d names ms
 named-entries s d names [] r t h = tt
-named-entries s d names (m ∷ ms) r (there, t) ((hu, hv, hw), h) = (record {
-  u_there = there.0;
-  v_there = there.1;
-  w_there = there.2;
-  u_named = has-name s d names m.u r hu;
-  v_named = has-name s d names m.v r hv;
-  w_named = has-name s d names m.w r hw;
-}, named-entries s d names ms r t h)
+named-entries s d names (m ∷ ms) r (there, t) ((hu, hv, hw), h) = (
+  record {
+    u_there = there.0;
+    v_there = there.1;
+    w_there = there.2;
+    u_named = has-name s d names m.u r hu;
+    v_named = has-name s d names m.v r hv;
+    w_named = has-name s d names m.w r hw;
+  },
+  named-entries s d names ms r t h,
+)
 
 -- the nodes of traces are nodes of the diagram
 pub explained-there : (join : Bool → Bool → Bool) (d : Table) (before ms : List Met) → AreExplained join d before ms → AreThere d ms

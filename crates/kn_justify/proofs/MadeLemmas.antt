@@ -190,7 +190,7 @@ pub group-known : (vars : ℕ) (g : Gathered) (d : Table) → IsGroupWithin vars
 group-known vars g d h order depth low =
     All-index (λ y. (1 ≤ y) × (y ≤ vars)) d.order depth
     (subst (λ (xs : List ℕ). AllByRecursion (λ y. (1 ≤ y) × (y ≤ vars)) xs) (sym order)
-        (All-turned (λ y. (1 ≤ y) × (y ≤ vars)) (map (λ l. l.variable) g.border ++ g.aux) (All-append (λ y. (1 ≤ y) × (y ≤ vars)) (map (λ l. l.variable) g.border) g.aux (border_variables vars g.border h.border) h.aux))) low
+    (All-turned (λ y. (1 ≤ y) × (y ≤ vars)) (map (λ l. l.variable) g.border ++ g.aux) (All-append (λ y. (1 ≤ y) × (y ≤ vars)) (map (λ l. l.variable) g.border) g.aux (border_variables vars g.border h.border) h.aux))) low
 
 pub taken-live : (given : List Given) (ids : List ℕ) (cs : List Bounded) → AreTaken given ids cs → AreLive given ids
 taken-live given [] cs h = tt

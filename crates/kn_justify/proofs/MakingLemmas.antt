@@ -73,8 +73,8 @@ pub made-more : (node : ℕ) (id : Option ℕ) (old new : List (ℕ × Option �
 made-more node id old new stages i s noted is h b e =
     subst (λ (x : List Stage). AreMade new x) (sym (take_more stages i s b ∙ ap (λ (y : Stage). take i stages ++ y ∷ []) (sym e)))
     (All-push (λ x. has_unit new (node_of x) ≡ true) (take i stages) s
-        (All-weaker (λ x. has_unit old (node_of x) ≡ true) (λ x. has_unit new (node_of x) ≡ true) (take i stages) (λ x k. noted-kept node id old new (node_of x) noted k) h)
-        (subst (λ (x : ℕ). has_unit new x ≡ true) is (noted-there node id old new noted)))
+    (All-weaker (λ x. has_unit old (node_of x) ≡ true) (λ x. has_unit new (node_of x) ≡ true) (take i stages) (λ x k. noted-kept node id old new (node_of x) noted k) h)
+    (subst (λ (x : ℕ). has_unit new x ≡ true) is (noted-there node id old new noted)))
 
 -- what the next unit is made of
 next-grows : (old new : ProofState) (d : Table) (cs : List Bounded) (ids : List ℕ) (units : List (ℕ × Option ℕ)) (s : Stage) → Grown old new → IsNext old.given d cs ids units s → IsNext new.given d cs ids units s

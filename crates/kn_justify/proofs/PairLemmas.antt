@@ -125,8 +125,8 @@ pub first-refuted : (s : ProofState) (d : Table) (names : List (ℕ × Name)) (m
 first-refuted s d names m depth child hints arms ok within h c e f =
     subst (λ (x : List ℕ). Refuted s.given x arms) (sym e) (subst (λ (x : List Arm). Refuted s.given (side_hints d names depth 0 2 m child) x) (sym f)
     (side-refuted s.given _ (arm_at names m.u) (arm_at names m.v) (arm_at names m.w) (arm_at names (high_at d depth m.u)) (arm_at names (high_at d depth m.v)) (arm_at names (high_at d depth m.w))
-        (hint_at d names depth 0 m.u) (hint_at d names depth 0 m.v) child (hint_at d names depth 2 m.w)
-        (high_down_at s d names m.u depth _ ok within h.u_named refl) (high_down_at s d names m.v depth _ ok within h.v_named refl) c (high_up_at s d names m.w depth _ ok within h.w_named refl)))
+    (hint_at d names depth 0 m.u) (hint_at d names depth 0 m.v) child (hint_at d names depth 2 m.w)
+    (high_down_at s d names m.u depth _ ok within h.u_named refl) (high_down_at s d names m.v depth _ ok within h.v_named refl) c (high_up_at s d names m.w depth _ ok within h.w_named refl)))
 
 -- The second line, by the first and the lemma of the pair of its lows.
 pub second-refuted-by : (s : ProofState) (d : Table) (names : List (ℕ × Name)) (m : Met) (depth : ℕ) (first child hints : List ℕ) (arms : List Arm) → IsTable d → depth < length d.order → IsNamedMet s d names m
@@ -135,9 +135,9 @@ pub second-refuted-by : (s : ProofState) (d : Table) (names : List (ℕ × Name)
 second-refuted-by s d names m depth first child hints arms ok within h one c e f =
     subst (λ (x : List ℕ). Refuted s.given x arms) (sym e) (subst (λ (x : List Arm). Refuted s.given (first ++ side_hints d names depth 1 3 m child) x) (sym f)
     (second-refuted s.given (test_at d depth) (pair_arms names m) first (side_hints d names depth 1 3 m child) one
-        (side-refuted s.given _ (arm_at names m.u) (arm_at names m.v) (arm_at names m.w) (arm_at names (low_at d depth m.u)) (arm_at names (low_at d depth m.v)) (arm_at names (low_at d depth m.w))
-            (hint_at d names depth 1 m.u) (hint_at d names depth 1 m.v) child (hint_at d names depth 3 m.w)
-            (low_down_at s d names m.u depth _ ok within h.u_named refl) (low_down_at s d names m.v depth _ ok within h.v_named refl) c (low_up_at s d names m.w depth _ ok within h.w_named refl))))
+    (side-refuted s.given _ (arm_at names m.u) (arm_at names m.v) (arm_at names m.w) (arm_at names (low_at d depth m.u)) (arm_at names (low_at d depth m.v)) (arm_at names (low_at d depth m.w))
+    (hint_at d names depth 1 m.u) (hint_at d names depth 1 m.v) child (hint_at d names depth 3 m.w)
+    (low_down_at s d names m.u depth _ ok within h.u_named refl) (low_down_at s d names m.v depth _ ok within h.v_named refl) c (low_up_at s d names m.w depth _ ok within h.w_named refl))))
 
 pub first-known : (s : ProofState) (d : Table) (names : List (ℕ × Name)) (m : Met) (x : Literal) (arms : List Arm) → IsNamedMet s d names m → IsKnown s.vars x → arms ≡ arm.Lit (negated x) ∷ pair_arms names m → AreKnownArms s.vars arms
 first-known s d names m x arms h known e =
@@ -153,7 +153,7 @@ pub at-refuted : (s : ProofState) (d : Table) (names : List (ℕ × Name)) (u w 
 at-refuted s d names u w depth hh hl hints arms ok within at h jh jl e f =
     subst (λ (x : List ℕ). Refuted s.given x arms) (sym e) (subst (λ (x : List Arm). Refuted s.given (hh ++ (hl ++ (hint_at d names depth 0 u ++ hint_at d names depth 1 u))) x) (sym f)
     (halves-refuted s.given (test_at d depth) (arm_at names u) (arm_at names w) (arm_at names (high_at d depth u)) (arm_at names (low_at d depth u)) hh hl (hint_at d names depth 0 u) (hint_at d names depth 1 u) jh jl
-        (high_down_at s d names u depth _ ok within h refl) (low_down_at s d names u depth _ ok within h refl)))
+    (high_down_at s d names u depth _ ok within h refl) (low_down_at s d names u depth _ ok within h refl)))
 
 pub four_pushed : (p q r s hh hl a b : List ℕ) → p ≡ [] ++ hh → q ≡ p ++ hl → r ≡ q ++ a → s ≡ r ++ b → s ≡ hh ++ (hl ++ (a ++ b))
 four_pushed p q r s hh hl a b e f g h =

@@ -115,7 +115,7 @@ all_at : (P : ℕ → Type 0) (bottom : ℕ) (row : Row) (older : List Row) (f n
     → ((g : ℕ) → g < length older + 2 → P g → reaches_in older g node ≡ true → P node) → reaches_in (row ∷ older) f node ≡ true → ((f ≡ length older + 2) ⊎ (f ≡ length older + 2 → ⊥)) → P node
 all_at P bottom row older f node r h p step ih e (inl k) =
     newest_all P bottom row older f node r k h p step ih (or_cases (f == node) (reaches_in older row.high node || reaches_in older row.low node)
-        (sym (cond-true (f == length older + 2) _ (reaches_in older f node) (eq-eqb f (length older + 2) k)) ∙ e))
+    (sym (cond-true (f == length older + 2) _ (reaches_in older f node) (eq-eqb f (length older + 2) k)) ∙ e))
 all_at P bottom row older f node r h p step ih e (inr n) =
     let small : f < length older + 2 = omega (arith, n, h) in
     ih f small p (sym (older-is row older f node small) ∙ e)

@@ -35,9 +35,9 @@ both_same false = refl
 pub constant-settled : (given : List Given) (d : Table) (names : List (ℕ × Name)) (variable u w : ℕ) → IsTable d → IsQuantified d variable u w → u < 2 → Settled given [] (pair_arms names (alone u w))
 constant-settled given d names variable u w ok h low =
     alone_same given names u w (canonical d ok w u h.w_there h.u_there (λ z.
-        h.function z
-        ∙ (λ i. function_of-constant d u (with_value z variable true) low i || function_of-constant d u (with_value z variable false) low i)
-        ∙ both_same (u == 1) ∙ sym (function_of-constant d u z low)))
+    h.function z
+    ∙ (λ i. function_of-constant d u (with_value z variable true) low i || function_of-constant d u (with_value z variable false) low i)
+    ∙ both_same (u == 1) ∙ sym (function_of-constant d u z low)))
 
 pub below-settled : (given : List Given) (d : Table) (names : List (ℕ × Name)) (variable : ℕ) (left right lemmas : List ((ℕ × ℕ) × Option ℕ)) (m : Met) (own place : ℕ) → HasParts d variable left right lemmas m → own ≡ depth_of d m.u → place ≡ depth_in d.order variable → place < own → Settled given [] (pair_arms names (alone m.u m.w))
 below-settled given d names variable left right lemmas m own place h e f k = alone_same given names m.u m.w (h.below (omega (arith, e, f, k)))
@@ -59,10 +59,10 @@ quantified-high : (d : Table) (y u w c depth : ℕ) → IsTable d → depth < le
 quantified-high d y u w c depth ok within above hu hw m n =
     canonical d ok c (high_at d depth w) n.w_there (split-at d w depth ok m.w_there within hw).high_there
     (λ z. n.function z
-        ∙ ap (λ (b : Bool). b || function_of d (high_at d depth u) (with_value z y false)) (half z true)
-        ∙ ap (λ (b : Bool). function_of d u (with_value (with_value z (slice_index d.order depth) true) y true) || b) (half z false)
-        ∙ sym (m.function (with_value z (slice_index d.order depth) true))
-        ∙ sym (high-function d w depth z ok m.w_there within hw))
+    ∙ ap (λ (b : Bool). b || function_of d (high_at d depth u) (with_value z y false)) (half z true)
+    ∙ ap (λ (b : Bool). function_of d u (with_value (with_value z (slice_index d.order depth) true) y true) || b) (half z false)
+    ∙ sym (m.function (with_value z (slice_index d.order depth) true))
+    ∙ sym (high-function d w depth z ok m.w_there within hw))
   where
     half : (z : ℕ → Bool) (b : Bool) → function_of d (high_at d depth u) (with_value z y b) ≡ function_of d u (with_value (with_value z (slice_index d.order depth) true) y b)
     half z b = high-function d u depth (with_value z y b) ok m.u_there within hu ∙ ap (λ (v : ℕ → Bool). function_of d u v) (swap z (slice_index d.order depth) y b true (apart d y depth ok within above))
@@ -71,10 +71,10 @@ quantified-low : (d : Table) (y u w c depth : ℕ) → IsTable d → depth < len
 quantified-low d y u w c depth ok within above hu hw m n =
     canonical d ok c (low_at d depth w) n.w_there (split-at d w depth ok m.w_there within hw).low_there
     (λ z. n.function z
-        ∙ ap (λ (b : Bool). b || function_of d (low_at d depth u) (with_value z y false)) (half z true)
-        ∙ ap (λ (b : Bool). function_of d u (with_value (with_value z (slice_index d.order depth) false) y true) || b) (half z false)
-        ∙ sym (m.function (with_value z (slice_index d.order depth) false))
-        ∙ sym (low-function d w depth z ok m.w_there within hw))
+    ∙ ap (λ (b : Bool). b || function_of d (low_at d depth u) (with_value z y false)) (half z true)
+    ∙ ap (λ (b : Bool). function_of d u (with_value (with_value z (slice_index d.order depth) false) y true) || b) (half z false)
+    ∙ sym (m.function (with_value z (slice_index d.order depth) false))
+    ∙ sym (low-function d w depth z ok m.w_there within hw))
   where
     half : (z : ℕ → Bool) (b : Bool) → function_of d (low_at d depth u) (with_value z y b) ≡ function_of d u (with_value (with_value z (slice_index d.order depth) false) y b)
     half z b = low-function d u depth (with_value z y b) ok m.u_there within hu ∙ ap (λ (v : ℕ → Bool). function_of d u v) (swap z (slice_index d.order depth) y b false (apart d y depth ok within above))
@@ -108,7 +108,7 @@ first-half given d names variable left right lemmas m seen own high low found id
     let same : k.w ≡ m.w = canonical d ok k.w m.w k.right.w_there r.w_there (λ v. k.right.function v ∙ sym (r.function v)) in
     subst (λ (x : Met). Settled given (option_to_list id) (pair_arms names (record { u = high_at d own x.u; v = 1; w = x.w }))) (sym es)
     (subst (λ (x : ℕ). Settled given (option_to_list id) (pair_arms names (alone x m.w))) (sym (own-high d m.u own e))
-        (subst (λ (x : ℕ). Settled given (option_to_list id) (pair_arms names (alone (high_of d m.u) x))) same k.settled))
+    (subst (λ (x : ℕ). Settled given (option_to_list id) (pair_arms names (alone (high_of d m.u) x))) same k.settled))
 
 pub second-half : (given : List Given) (d : Table) (names : List (ℕ × Name)) (variable : ℕ) (left right lemmas : List ((ℕ × ℕ) × Option ℕ)) (m seen : Met) (own high low : ℕ) (found : Option (Option ℕ)) (id : Option ℕ) → IsTable d → HasParts d variable left right lemmas m → depth_of d m.u ≡ depth_in d.order variable
     → own ≡ depth_of d m.u → high ≡ high_of d m.u → low ≡ low_of d m.u → seen ≡ alone m.u m.w → AreJoined given d names Right right → found ≡ lemma_of right high low → found ≡ Some id
@@ -120,7 +120,7 @@ second-half given d names variable left right lemmas m seen own high low found i
     let same : k.w ≡ m.w = canonical d ok k.w m.w k.right.w_there r.w_there (λ v. k.right.function v ∙ sym (r.function v)) in
     subst (λ (x : Met). Settled given (option_to_list id) (pair_arms names (record { u = low_at d own x.u; v = 1; w = x.w }))) (sym es)
     (subst (λ (x : ℕ). Settled given (option_to_list id) (pair_arms names (alone x m.w))) (sym (own-low d m.u own e))
-        (subst (λ (x : ℕ). Settled given (option_to_list id) (pair_arms names (alone (low_of d m.u) x))) same k.settled))
+    (subst (λ (x : ℕ). Settled given (option_to_list id) (pair_arms names (alone (low_of d m.u) x))) same k.settled))
 
 -- above the variable
 pub is-above : (d : Table) (u var variable high low own place : ℕ) → IsBranch d u var high low → own ≡ depth_of d u → place ≡ depth_in d.order variable → own ≤ place → (var ≡ variable → ⊥) → depth_of d u < depth_in d.order variable
@@ -137,8 +137,8 @@ high-part given d names variable left right lemmas m seen own high found id ok w
     let same : k.w ≡ high_at d own m.w = quantified-high d variable m.u m.w k.w own ok within (omega (arith, e, above)) (omega (arith, e)) (omega (arith, e, h.is_right.depth_is)) h.is_right r in
     subst (λ (x : Met). Settled given (option_to_list id) (pair_arms names (high_met d own x))) (sym es)
     (subst (λ (x : Met). Settled given (option_to_list id) (pair_arms names x)) (alone-high d own m.u m.w ok within)
-        (subst (λ (x : ℕ). Settled given (option_to_list id) (pair_arms names (alone x (high_at d own m.w)))) is
-        (subst (λ (x : ℕ). Settled given (option_to_list id) (pair_arms names (alone high x))) same k.settled)))
+    (subst (λ (x : ℕ). Settled given (option_to_list id) (pair_arms names (alone x (high_at d own m.w)))) is
+    (subst (λ (x : ℕ). Settled given (option_to_list id) (pair_arms names (alone high x))) same k.settled)))
 
 pub low-part : (given : List Given) (d : Table) (names : List (ℕ × Name)) (variable : ℕ) (left right lemmas : List ((ℕ × ℕ) × Option ℕ)) (m seen : Met) (own low : ℕ) (found : Option (Option ℕ)) (id : Option ℕ) → IsTable d → own < length d.order → HasParts d variable left right lemmas m → depth_of d m.u < depth_in d.order variable
     → own ≡ depth_of d m.u → low ≡ low_of d m.u → seen ≡ alone m.u m.w → AreReduced given d names variable lemmas → found ≡ lemma_of lemmas low low → found ≡ Some id → Settled given (option_to_list id) (pair_arms names (low_met d own seen))
@@ -149,8 +149,8 @@ low-part given d names variable left right lemmas m seen own low found id ok wit
     let same : k.w ≡ low_at d own m.w = quantified-low d variable m.u m.w k.w own ok within (omega (arith, e, above)) (omega (arith, e)) (omega (arith, e, h.is_right.depth_is)) h.is_right r in
     subst (λ (x : Met). Settled given (option_to_list id) (pair_arms names (low_met d own x))) (sym es)
     (subst (λ (x : Met). Settled given (option_to_list id) (pair_arms names x)) (alone-low d own m.u m.w ok within)
-        (subst (λ (x : ℕ). Settled given (option_to_list id) (pair_arms names (alone x (low_at d own m.w)))) is
-        (subst (λ (x : ℕ). Settled given (option_to_list id) (pair_arms names (alone low x))) same k.settled)))
+    (subst (λ (x : ℕ). Settled given (option_to_list id) (pair_arms names (alone x (low_at d own m.w)))) is
+    (subst (λ (x : ℕ). Settled given (option_to_list id) (pair_arms names (alone low x))) same k.settled)))
 
 -- a pair that has a lemma is found
 pub not-missing : (lemmas : List ((ℕ × ℕ) × Option ℕ)) (p q x y : ℕ) (o : Option (Option ℕ)) → has_lemma lemmas x y ≡ true → p ≡ x → q ≡ y → o ≡ lemma_of lemmas p q → o ≡ None → ⊥

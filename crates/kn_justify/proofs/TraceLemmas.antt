@@ -81,8 +81,8 @@ pub covered-more : (lemmas next : List ((ℕ × ℕ) × Option ℕ)) (ms : List 
 covered-more lemmas next ms i m id h b e none is =
     subst (λ (x : List ((ℕ × ℕ) × Option ℕ)). AreCovered x (take (i + 1) ms)) (sym is)
     (covered-next (lemmas ++ ((m.u, m.v), id) ∷ []) ms i m
-        (All-weaker (λ x. has_lemma lemmas x.u x.v ≡ true) (λ x. has_lemma (lemmas ++ ((m.u, m.v), id) ∷ []) x.u x.v ≡ true) (take i ms) (λ x k. lemma-kept lemmas (((m.u, m.v), id) ∷ []) x.u x.v k) h)
-        b e (lemma-last lemmas m.u m.v id none))
+    (All-weaker (λ x. has_lemma lemmas x.u x.v ≡ true) (λ x. has_lemma (lemmas ++ ((m.u, m.v), id) ∷ []) x.u x.v ≡ true) (take i ms) (λ x k. lemma-kept lemmas (((m.u, m.v), id) ∷ []) x.u x.v k) h)
+    b e (lemma-last lemmas m.u m.v id none))
 
 -- lemmas stay right while the state grows, and one more comes
 pub joined-grow : (old new : ProofState) (d : Table) (names : List (ℕ × Name)) (side : Side) (lemmas : List ((ℕ × ℕ) × Option ℕ)) → Grown old new → AreJoined old.given d names side lemmas → AreJoined new.given d names side lemmas

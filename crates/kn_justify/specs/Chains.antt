@@ -22,4 +22,3 @@ pub record Chain (given : List Given) (d : Table) (names : List (ℕ × Name)) (
   pub sound : (run : Option (List Literal)) → IsSound run → IsSound (run_on run cs)
   pub next : (run : Option (List Literal)) → IsSound run → Has run (opposite (arm_at names f)) → Has (run_on run cs) (opposite (arm_at names node))
   pub refuted : (run : Option (List Literal)) → IsSound run → Has run (opposite (arm_at names f)) → (l : Literal) → has lits l ≡ true → (has rest l ≡ true) ⊎ Has (run_on run cs) (arm.Lit (negated l))
-

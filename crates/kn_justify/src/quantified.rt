@@ -144,7 +144,5 @@ fn entry<S: Sink>(
         unreachable!()
     };
     let test = Lit::new(var, true);
-    pair(
-        alloc, d, &seen, own, test, first, second, named, log, sink,
-    )
+    pair(alloc, d, &seen, own, test, first, second, named, log, sink)
 }

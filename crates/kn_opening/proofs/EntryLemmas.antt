@@ -194,7 +194,7 @@ deleted-files (id ∷ ids) gone cs rest new h e =
     let c = h.0.1 in
     let given = file_entries 0 gone cs ++ rest in
     let one : without given id (given_at given id) ≡ file_entries 0 (or-id gone id) cs ++ rest =
-        subst (λ (n : ℕ). without given n (given_at given n) ≡ file_entries 0 (or-id gone n) cs ++ rest) (sym h.0.2) (without-file k gone cs rest c h.0.3 h.0.4) in
+    subst (λ (n : ℕ). without given n (given_at given n) ≡ file_entries 0 (or-id gone n) cs ++ rest) (sym h.0.2) (without-file k gone cs rest c h.0.3 h.0.4) in
     let next = by (is_none (live_at given id)) refl e in
     deleted-files ids (or-id gone id) cs rest new h.1 (ap (λ z. deleted z ids) (sym one) ∙ next)
     ∙ ap (λ es. es ++ rest) (file-same 0 (λ j. or-id gone id j || is_among ids j) (λ j. gone j || is_among (id ∷ ids) j) cs (λ j more. or_assoc (gone j) (id == j) (is_among ids j)))

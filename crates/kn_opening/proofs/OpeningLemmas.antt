@@ -221,14 +221,14 @@ opening-next e s new k klauses d id less o of_file r =
     let c = klause_in_proof t in
     let more = (o.rest ++ r.help) ++ klause_entry c ∷ [] in
     let base : (s.given ++ r.help) ++ klause_entry c ∷ [] ≡ file_entries 0 (is_taken e k) cs ++ more =
-        ap (λ z. (z ++ r.help) ++ klause_entry c ∷ []) o.given ∙ ap (λ z. z ++ klause_entry c ∷ []) (append_assoc (file_entries 0 (is_taken e k) cs) o.rest r.help)
-        ∙ append_assoc (file_entries 0 (is_taken e k) cs) (o.rest ++ r.help) (klause_entry c ∷ []) in
+    ap (λ z. (z ++ r.help) ++ klause_entry c ∷ []) o.given ∙ ap (λ z. z ++ klause_entry c ∷ []) (append_assoc (file_entries 0 (is_taken e k) cs) o.rest r.help)
+    ∙ append_assoc (file_entries 0 (is_taken e k) cs) (o.rest ++ r.help) (klause_entry c ∷ []) in
     let after = deleted-files ids (is_taken e k) cs more new.given of_file (ap (λ z. deleted z ids) (sym base) ∙ r.given) in
     let same = file-same 0 (λ j. is_taken e k j || is_among ids j) (is_taken e (k + 1)) cs (λ j above. sym (taken-more e k d j less)) in
     let live = live-next n o.rest r.help c r.are_help in
     let long : id ≡ n + length (o.rest ++ r.help) + 1 =
-        r.id_is ∙ ap (λ z. length (z ++ r.help) + 1) o.given ∙ ap (λ z. length z + 1) (append_assoc (file_entries 0 (is_taken e k) cs) o.rest r.help)
-        ∙ ap (λ m. m + 1) (length-append (file_entries 0 (is_taken e k) cs) (o.rest ++ r.help) ∙ ap (λ m. m + length (o.rest ++ r.help)) (file-length 0 (is_taken e k) cs)) in
+    r.id_is ∙ ap (λ z. length (z ++ r.help) + 1) o.given ∙ ap (λ z. length z + 1) (append_assoc (file_entries 0 (is_taken e k) cs) o.rest r.help)
+    ∙ ap (λ m. m + 1) (length-append (file_entries 0 (is_taken e k) cs) (o.rest ++ r.help) ∙ ap (λ m. m + length (o.rest ++ r.help)) (file-length 0 (is_taken e k) cs)) in
     record {
       rest = more;
       given = after ∙ ap (λ z. z ++ more) same;
@@ -360,15 +360,15 @@ opening-end e s k klauses ids left x remains le o left_is ids_are =
     let A = constraints_of (filter (λ p. not (is_among (ids_taken (map found_of e.taken)) p.id)) (numbered 0 cs)) in
     let A_is : constraints_of kept ≡ A = ap (λ ts. constraints_of (filter (λ p. not (is_among (ids_taken (map found_of ts)) p.id)) (numbered 0 cs))) whole in
     let live : live_behind 0 s.given ≡ kept ++ live_behind n o.rest =
-        ap (live_behind 0) o.given ∙ live-append 0 (file_entries 0 gone cs) o.rest ∙ ap₂ (λ ps m. ps ++ live_behind m o.rest) (live-files 0 gone cs) (zero-left (length (file_entries 0 gone cs)) ∙ file-length 0 gone cs) in
+    ap (live_behind 0) o.given ∙ live-append 0 (file_entries 0 gone cs) o.rest ∙ ap₂ (λ ps m. ps ++ live_behind m o.rest) (live-files 0 gone cs) (zero-left (length (file_entries 0 gone cs)) ∙ file-length 0 gone cs) in
     let klauses_are : constraints_of (live_behind n o.rest) ≡ map klause_in_proof e.taken = o.constraints ∙ ap (map klause_in_proof) whole in
     let all : constraints_of (live_behind 0 s.given) ≡ A ++ map klause_in_proof e.taken =
-        ap constraints_of live ∙ constraints-append kept (live_behind n o.rest) ∙ ap₂ (λ a b. a ++ b) A_is klauses_are in
+    ap constraints_of live ∙ constraints-append kept (live_behind n o.rest) ∙ ap₂ (λ a b. a ++ b) A_is klauses_are in
     let long : length e.formula.constraints - length e.taken ≡ length A =
-        (let a = ap (λ (z : List Bounded). length z) remains.constraints in let b = length-append A (map klause_of (map found_of e.taken)) in
-        let c = length-map (map found_of e.taken) klause_of in let d = length-map e.taken found_of in omega (arith, a, b, c, d)) in
+    (let a = ap (λ (z : List Bounded). length z) remains.constraints in let b = length-append A (map klause_of (map found_of e.taken)) in
+    let c = length-map (map found_of e.taken) klause_of in let d = length-map e.taken found_of in omega (arith, a, b, c, d)) in
     let front : take (length e.formula.constraints - length e.taken) e.formula.constraints ≡ A =
-        ap₂ (λ m (z : List Bounded). take m z) long remains.constraints ∙ take-append_seam A (map klause_of (map found_of e.taken)) in
+    ap₂ (λ m (z : List Bounded). take m z) long remains.constraints ∙ take-append_seam A (map klause_of (map found_of e.taken)) in
     record {
       ids_are = ap ids_of live ∙ ids-of-append kept (live_behind n o.rest) ∙ ap₂ (λ a b. a ++ b)
           (sym (left_is ∙ ap (λ z. filter (λ id. is_some (live_at z id)) (range_with_len 1 n)) o.given ∙ left-ids (file_entries 0 gone cs ++ o.rest) gone 0 cs (file-live gone cs o.rest))) o.ids ∙ sym ids_are;

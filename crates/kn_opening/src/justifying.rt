@@ -17,7 +17,12 @@ use std::alloc::Global;
 
 /// Justifies the klause of a group that was taken, whose clauses are live under the ids of their places. Answers the id
 /// of the klause.
-pub(crate) fn justify<S: Sink>(alloc: Global, taken: &Taken, log: &mut Log, sink: &mut S) -> Result<u64, LogError>
+pub(crate) fn justify<S: Sink>(
+    alloc: Global,
+    taken: &Taken,
+    log: &mut Log,
+    sink: &mut S,
+) -> Result<u64, LogError>
     requires whole { log.old.failed ≡ false }
     requires within { AllByRecursion (λ place. place < 2 ^ 64 - 1) taken.now.places }
     requires pair { taken.now.elimination ≡ None → taken.now.klause.bound + 1 ≡ length taken.now.group.border }

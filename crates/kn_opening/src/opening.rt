@@ -19,7 +19,12 @@ use std::alloc::Global;
 /// their order, the lines that justify its klause, and the deletion of its clauses. Answers the ids of the constraints of
 /// the formula that remains, in their order. An error where memory is short, or the sink counted a fault: the lines so
 /// far were written, all but the last of them whole.
-pub fn open<S: Sink>(alloc: Global, e: &Extraction, log: &mut Log, sink: &mut S) -> Result<Vec<u64>, LogError>
+pub fn open<S: Sink>(
+    alloc: Global,
+    e: &Extraction,
+    log: &mut Log,
+    sink: &mut S,
+) -> Result<Vec<u64>, LogError>
     requires fresh { log.old ≡ fresh e.now.original }
     ensures opened { IfOk result (λ ids. IsOpened e.now log.new.state ids.items) }
     ensures lines { LogsSuch AreOpeningLines log.old log.new (S.written sink.old) (S.written sink.new) result }

@@ -48,13 +48,20 @@ closed_for_log live given t m h = record {
 
 -- what is new for the engine's constraints is new for those of the log
 pub new-for-log : (live : List Live) (given : List Given) (lits : List Literal) → Mirrors live given → IsNew (constraints live) lits → IsNew (searched given) lits
-new-for-log live given lits m (different, (last, t, n)) = (different, (last, t, record {
-  stands = n.stands;
-  closed = closed_for_log live given t m n.closed;
-  others = n.others;
-  unset = n.unset;
-  unrefuted = n.unrefuted;
-}))
+new-for-log live given lits m (different, (last, t, n)) = (
+  different,
+  (
+    last,
+    t,
+    record {
+      stands = n.stands;
+      closed = closed_for_log live given t m n.closed;
+      others = n.others;
+      unset = n.unset;
+      unrefuted = n.unrefuted;
+    },
+  ),
+)
 
 -- an id that was not given yet
 pub unused-id : (live : List Live) (given : List Given) (id : ℕ) → Mirrors live given → id ≡ length given + 1 → live_in live id ≡ None

@@ -61,9 +61,10 @@ holds_under vars lits values (Some guard) bound own d known within quiet =
 -- each constraint is found under its id
 found_each : (P : Bounded → Type 0) (live : List Live) → AreApart live → ((id : ℕ) (c : Bounded) → live_in live id ≡ Some c → P c) → AllByRecursion P (constraints live)
 found_each P [] apart h = tt
-found_each P (x ∷ live) apart h =
-    (h x.id x.constraint (cond-true (eqb x.id x.id) (Some x.constraint) (live_in live x.id) (eq-eqb x.id x.id refl)),
-    found_each P live apart.1 (λ id c at. h id c (behind id c (eqb x.id id) refl at)))
+found_each P (x ∷ live) apart h = (
+  h x.id x.constraint (cond-true (eqb x.id x.id) (Some x.constraint) (live_in live x.id) (eq-eqb x.id x.id refl)),
+  found_each P live apart.1 (λ id c at. h id c (behind id c (eqb x.id id) refl at)),
+)
   where
     behind : (id : ℕ) (c : Bounded) (b : Bool) → eqb x.id id ≡ b → live_in live id ≡ Some c → cond (eqb x.id id) (Some x.constraint) (live_in live id) ≡ Some c
     behind id c true e at = (let none : live_in live id ≡ None = subst (λ (n : ℕ). live_in live n ≡ None) (eqb-true x.id id e) apart.0 in absurd cc)
@@ -85,11 +86,13 @@ model-of first g values ids apart vars kept engine closed total are =
       total = total;
       one = λ l h. not_open (has (literals g.trail.made) (negated l)) (consistent_at (literals g.trail.made) (literals g.trail.made) l closed.consistent h);
       values_ = are;
-    } in
-    (are.count ∙ vars, found_each (Holds values) first.live apart (λ id c at.
-        let there = kept.live_ id c at in
-        let within = within_live g.trail.vars g.live id c engine.within there in
-        holds_under g.trail.vars (literals g.trail.made) values c.guard c.bound c.lits d within.guard within.lits (live-all (λ x. IsShort (literals g.trail.made) x → ⊥) g.live id c closed.quiet there)))
+    } in (
+      are.count ∙ vars,
+      found_each (Holds values) first.live apart (λ id c at.
+          let there = kept.live_ id c at in
+          let within = within_live g.trail.vars g.live id c engine.within there in
+          holds_under g.trail.vars (literals g.trail.made) values c.guard c.bound c.lits d within.guard within.lits (live-all (λ x. IsShort (literals g.trail.made) x → ⊥) g.live id c closed.quiet there)),
+    )
   where
     not_open : (b : Bool) → not b ≡ true → b ≡ false
     not_open true h = absurd cc

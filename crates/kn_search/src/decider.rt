@@ -12,7 +12,9 @@ use std::alloc::{AllocError, Global};
 /// What a variable becomes more active by at first; from which increment on all activities are made smaller, and how often
 /// they are halved then.
 const FIRST_INCREMENT: u64 = 1 << 20;
+
 const LARGE_INCREMENT: u64 = 1 << 52;
+
 const HALVINGS: u32 = 32;
 
 /// Chooses the literals that are assumed. Of its heap and its table nothing is promised, they serve to choose well: but a

@@ -16,10 +16,7 @@ use std::alloc::Global;
 
 /// Propagates and assumes literals up to a conflict, whose id this is; `None` where each variable has a value and none
 /// of the constraints is violated.
-pub fn dive<K: Watched>(
-    engine: &mut Engine<ClauseWatch, K>,
-    decider: &mut Decider,
-) -> Option<u64>
+pub fn dive<K: Watched>(engine: &mut Engine<ClauseWatch, K>, decider: &mut Decider) -> Option<u64>
     ensures vars { engine.new.trail.vars ≡ engine.old.trail.vars }
     ensures live { engine.new.live ≡ engine.old.live }
     ensures conflict { IfSome result (λ id. engine.new.last ≡ Some (Conflict id)) }

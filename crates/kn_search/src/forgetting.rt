@@ -118,12 +118,7 @@ pub fn forget_some<K: Watched, S: Sink>(
 }
 
 /// Deletes ids by one line.
-fn delete<S: Sink>(
-    alloc: Global,
-    log: &mut Log,
-    sink: &mut S,
-    ids: &[u64],
-) -> Result<(), LogError>
+fn delete<S: Sink>(alloc: Global, log: &mut Log, sink: &mut S, ids: &[u64]) -> Result<(), LogError>
     requires learned { AllByRecursion (IsLiveLearned log.old.state.given) ids.now }
     requires once { AreOnce ids.now }
     requires whole { log.old.failed ≡ false }

@@ -107,7 +107,7 @@ says engine options f p old new mid w (outcome.Spent learned) h e told = (
   told.0,
   written_learned f e.lines (vars_fit f.vars h.listed.vars) h.listed.count e.adds.spelled ∙ told.1 ∙ sym told.0,
   subst (λ (n : ℕ). IsSmall options.conflicts options.forget n) h.vars
-  (spent-small engine options old new mid w learned e (ap (λ (s : ProofState). learned_live s.given) h.begun ∙ none-learned f.constraints)),
+      (spent-small engine options old new mid w learned e (ap (λ (s : ProofState). learned_live s.given) h.begun ∙ none-learned f.constraints)),
 )
 
 pub outcome_found : (engine : Engined) (options : Options) (f : Problem) (p : Change Sink) (old new : Logged) (mid : Option (List ℕ)) (o : Outcome) → IsBehind f p engine old mid → Ends engine options old new mid p.new.written o

@@ -47,8 +47,8 @@ close-requires-clause-steps g c =
     let there : IsNode c.args.elimination.now.table c.args.elimination.now.result = subst (λ (x : ℕ). IsNode c.args.elimination.now.table x) c.result-root.ensures.value c.result-root.ensures.there in
     let lits : c.reverse.new.self.items ≡ reverse c.args.group.now.border = c.reverse.ensures.items ∙ ap (λ (xs : List Literal). reverse xs) (c.in_ok-lits.ensures.items ∙ c.border-border.ensures.value) in
     let steps : IsOk (count c.args.log.now.state c.args.bound (reverse c.args.group.now.border) c.in-Some-get.name.lit.variable c.in-Some-id.unit) =
-        closing-steps c.args.log.now.state c.args.group.now c.args.elimination.now c.args.named.now c.args.units.now c.args.bound c.in-Some-id.unit c.in-Some-get.name ok c.border-border.ensures.group c.requires.elimination there c.requires.counts c.requires.bound c.requires.known c.requires.right c.requires.units
-        (ap (λ (x : ℕ). unit_of c.args.units.now x) (sym c.result-root.ensures.value) ∙ sym c.get.ensures ∙ c.in-Some.is ∙ ap Some c.in-Some-id.is)
-        (ap (λ (x : ℕ). name_of c.args.named.now x) (sym c.result-root.ensures.value) ∙ sym c.get-2.ensures.value ∙ c.in-Some-get.is) in
+    closing-steps c.args.log.now.state c.args.group.now c.args.elimination.now c.args.named.now c.args.units.now c.args.bound c.in-Some-id.unit c.in-Some-get.name ok c.border-border.ensures.group c.requires.elimination there c.requires.counts c.requires.bound c.requires.known c.requires.right c.requires.units
+    (ap (λ (x : ℕ). unit_of c.args.units.now x) (sym c.result-root.ensures.value) ∙ sym c.get.ensures ∙ c.in-Some.is ∙ ap Some c.in-Some-id.is)
+    (ap (λ (x : ℕ). name_of c.args.named.now x) (sym c.result-root.ensures.value) ∙ sym c.get-2.ensures.value ∙ c.in-Some-get.is) in
     subst (λ (k : Bounded). IsOk (count c.args.log.now.state k.bound k.lits c.var.result c.in-Some-id.unit)) (sym (c.new-klause.ensures ∙ ap (λ (xs : List Literal). klause c.args.bound xs) lits))
     (subst (λ (x : ℕ). IsOk (count c.args.log.now.state c.args.bound (reverse c.args.group.now.border) x c.in-Some-id.unit)) (sym c.var.ensures.value) steps)

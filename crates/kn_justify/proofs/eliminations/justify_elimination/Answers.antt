@@ -24,10 +24,10 @@ make_units-requires-clause-stages g c =
     let ok : IsTable c.args.elimination.now.table = subst (λ (d : Table). IsTable d) c.diagrams-d.ensures.value c.depth-depth.ensures.table in
     let some = holds-somewhere c.args.group.now c.args.bound c.taken-clauses.ensures.group c.requires.counts c.requires.bound.1 in
     let made : AreMadeInTurn c.args.log.now.state.given c.args.elimination.now.table c.args.group.now.taken c.args.ids.now c.args.elimination.now.stages =
-        made-in-turn c.args.group.now c.args.elimination.now c.args.log.now.state.given c.args.ids.now some.0 ok c.taken-clauses.ensures.group c.diagrams-d.ensures.elimination c.requires.elimination c.requires.live some.1 in
+    made-in-turn c.args.group.now c.args.elimination.now c.args.log.now.state.given c.args.ids.now some.0 ok c.taken-clauses.ensures.group c.diagrams-d.ensures.elimination c.requires.elimination c.requires.live some.1 in
     subst (λ (d : Table). AreMadeInTurn c.args.log.now.state.given d c.taken-clauses.result.now c.args.ids.now c.stages-stages.result.now) (sym c.diagrams-d.ensures.value)
     (subst (λ (cs : List Bounded). AreMadeInTurn c.args.log.now.state.given c.args.elimination.now.table cs c.args.ids.now c.stages-stages.result.now) (sym c.taken-clauses.ensures.value)
-        (subst (λ (ss : List Stage). AreMadeInTurn c.args.log.now.state.given c.args.elimination.now.table c.args.group.now.taken c.args.ids.now ss) (sym c.stages-stages.ensures.value) made))
+    (subst (λ (ss : List Stage). AreMadeInTurn c.args.log.now.state.given c.args.elimination.now.table c.args.group.now.taken c.args.ids.now ss) (sym c.stages-stages.ensures.value) made))
 
 pub returns-in_err-units-clause-kept : goal.returns-in_err-units-clause-kept
 returns-in_err-units-clause-kept g c = λ id x other e.

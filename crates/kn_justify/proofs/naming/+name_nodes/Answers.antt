@@ -15,7 +15,7 @@ name_nodes-requires g t c =
     let b = c.in-Some.ensures.branch in
     let two : 2 ≤ c.args.f = ltb-false _ _ (sym c.in-Some.ensures.constant) in
     let known : AreReachedKnown c.args.log.now.state.vars c.args.d.now c.in-Some.parts.1 =
-        known-high c.args.log.now.state.vars c.args.log.now.state.vars c.args.d.now c.args.f c.in-Some.parts.1 c.depth-depth.ensures.table c.requires.there two b.high_is (omega arith) c.requires.known in
+    known-high c.args.log.now.state.vars c.args.log.now.state.vars c.args.d.now c.args.f c.in-Some.parts.1 c.depth-depth.ensures.table c.requires.there two b.high_is (omega arith) c.requires.known in
     search rules
 
 pub returns-in_err-name_nodes-clause-reached : goal.returns-in_err-name_nodes-clause-reached
@@ -27,7 +27,7 @@ name_nodes-requires-2 g t c =
     let b = c.in-Some.ensures.branch in
     let two : 2 ≤ c.args.f = ltb-false _ _ (sym c.in-Some.ensures.constant) in
     let known : AreReachedKnown c.name_nodes.new.log.state.vars c.args.d.now c.in-Some.parts.2 =
-        known-low c.args.log.now.state.vars c.name_nodes.new.log.state.vars c.args.d.now c.args.f c.in-Some.parts.2 c.depth-depth.ensures.table c.requires.there two b.low_is c.name_nodes.ensures.grown.vars c.requires.known in
+    known-low c.args.log.now.state.vars c.name_nodes.new.log.state.vars c.args.d.now c.args.f c.in-Some.parts.2 c.depth-depth.ensures.table c.requires.there two b.low_is c.name_nodes.ensures.grown.vars c.requires.known in
     search rules
 
 pub returns-in_err-name_nodes-2-clause-reached : goal.returns-in_err-name_nodes-2-clause-reached
@@ -65,8 +65,8 @@ returns-clause-reached g t c =
     let two : 2 ≤ c.args.f = ltb-false _ _ (sym c.in-Some.ensures.constant) in
     reached-more c.args.d.now c.args.f c.args.named.now c.name_nodes-2.new.named c.name_node.new.named
     (reached-join c.args.d.now c.args.f c.in-Some.parts.2 c.args.named.now c.name_nodes.new.named c.name_nodes-2.new.named c.depth-depth.ensures.table c.requires.there two c.in-Some.ensures.branch.low_is
-        (reached-high c.args.d.now c.args.f c.in-Some.parts.1 c.args.named.now c.name_nodes.new.named c.depth-depth.ensures.table c.requires.there two c.in-Some.ensures.branch.high_is c.name_nodes.ensures.reached)
-        c.name_nodes-2.ensures.reached)
+    (reached-high c.args.d.now c.args.f c.in-Some.parts.1 c.args.named.now c.name_nodes.new.named c.depth-depth.ensures.table c.requires.there two c.in-Some.ensures.branch.high_is c.name_nodes.ensures.reached)
+    c.name_nodes-2.ensures.reached)
     c.name_node.ensures.reached
 
 pub returns-clause-kept : goal.returns-clause-kept

@@ -39,7 +39,7 @@ pub returns-clause-named : goal.returns-clause-named
 returns-clause-named g c =
     on-ok c.name_nodes-3.result (IsNamed c.name_nodes-3.new.named c.args.m.now.w) (ThreeNamed c.name_nodes-3.new.named c.args.m.now) c.name_nodes-3.ensures.named
     (λ w. (
-        named-stays c.name_nodes-2.new.named c.name_nodes-3.new.named c.args.m.now.u c.name_nodes-3.ensures.kept (named-stays c.name_nodes.new.named c.name_nodes-2.new.named c.args.m.now.u c.name_nodes-2.ensures.kept c.in_ok-name_nodes.ensures.named),
-        named-stays c.name_nodes-2.new.named c.name_nodes-3.new.named c.args.m.now.v c.name_nodes-3.ensures.kept c.in_ok-name_nodes-2.ensures.named,
-        w,
+      named-stays c.name_nodes-2.new.named c.name_nodes-3.new.named c.args.m.now.u c.name_nodes-3.ensures.kept (named-stays c.name_nodes.new.named c.name_nodes-2.new.named c.args.m.now.u c.name_nodes-2.ensures.kept c.in_ok-name_nodes.ensures.named),
+      named-stays c.name_nodes-2.new.named c.name_nodes-3.new.named c.args.m.now.v c.name_nodes-3.ensures.kept c.in_ok-name_nodes-2.ensures.named,
+      w,
     ))

@@ -37,10 +37,10 @@ pub returns-clause-right : goal.returns-clause-right
 returns-clause-right g c =
     subst (λ (x : List (ℕ × Name)). AreRight c.define.new.log.state c.args.d.now x) (sym c.in_ok-insert.ensures.ok)
     (names-right c.args.log.now.state c.define.new.log.state c.args.d.now c.args.named.now c.args.node c.in_ok-name.name c.requires.right
-        (such-grows c.args.log.now c.define.new.log _ _ c.define.result c.define.ensures.lines) c.requires.known
-        (subst (λ (x : ℕ). IsNamed c.args.named.now x) c.requires.high c.requires.high_named) (subst (λ (x : ℕ). IsNamed c.args.named.now x) c.requires.low c.requires.low_named)
-        (defined-as c.define.new.log.state c.in_ok-name.name c.new-x.result (test_of c.args.d.now c.args.node) c.known_arm.result _ c.known_arm-2.result _ (c.new-x.ensures ∙ ap positive_of c.requires.var)
-            (c.known_arm.ensures ∙ ap (λ (x : ℕ). arm_at c.args.named.now x) c.requires.high) (c.known_arm-2.ensures ∙ ap (λ (x : ℕ). arm_at c.args.named.now x) c.requires.low) c.in_ok-name.ensures.defined))
+    (such-grows c.args.log.now c.define.new.log _ _ c.define.result c.define.ensures.lines) c.requires.known
+    (subst (λ (x : ℕ). IsNamed c.args.named.now x) c.requires.high c.requires.high_named) (subst (λ (x : ℕ). IsNamed c.args.named.now x) c.requires.low c.requires.low_named)
+    (defined-as c.define.new.log.state c.in_ok-name.name c.new-x.result (test_of c.args.d.now c.args.node) c.known_arm.result _ c.known_arm-2.result _ (c.new-x.ensures ∙ ap positive_of c.requires.var)
+    (c.known_arm.ensures ∙ ap (λ (x : ℕ). arm_at c.args.named.now x) c.requires.high) (c.known_arm-2.ensures ∙ ap (λ (x : ℕ). arm_at c.args.named.now x) c.requires.low) c.in_ok-name.ensures.defined))
 
 pub returns-clause-kept : goal.returns-clause-kept
 returns-clause-kept g c = subst (λ (x : List (ℕ × Name)). AreKept c.args.named.now x) (sym c.in_ok-insert.ensures.ok) (kept-pushed c.args.named.now c.args.node c.in_ok-name.name)

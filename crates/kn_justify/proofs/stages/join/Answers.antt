@@ -26,7 +26,7 @@ and_unit-requires-clause-named g c =
     let all : AreAllNamed c.name_trace.new.named c.in-And.met = subst (λ (x : List Met). AreAllNamed c.name_trace.new.named x) c.met.ensures c.in_ok-name_trace.ensures.named in
     subst (λ (s : Stage). AreNamed c.name_trace.new.log.state c.args.d.now c.name_trace.new.named (traces_of s)) (sym c.in-And.is)
     (named-entries c.name_trace.new.log.state c.args.d.now c.name_trace.new.named c.in-And.met c.name_trace.ensures.right
-        (explained-there (λ a b. a && b) c.args.d.now [] c.in-And.met (and-explained c.args.d.now c.in-And.met (record { u = c.in-And.left; v = c.in-And.right; w = c.in-And.node }) h.0)) all)
+    (explained-there (λ a b. a && b) c.args.d.now [] c.in-And.met (and-explained c.args.d.now c.in-And.met (record { u = c.in-And.left; v = c.in-And.right; w = c.in-And.node }) h.0)) all)
 
 pub and_unit-requires-clause-left : goal.and_unit-requires-clause-left
 and_unit-requires-clause-left g c =

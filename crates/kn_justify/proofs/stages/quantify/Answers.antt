@@ -47,8 +47,8 @@ exists_unit-requires-clause-named g c =
     let halves : AreAllNamed c.name_trace-2.new.named c.in-Exists.halves = subst (λ (x : List Met). AreAllNamed c.name_trace-2.new.named x) c.met-2.ensures c.in_ok-name_trace-2.ensures.named in
     subst (λ (s : Stage). AreNamed c.name_trace-2.new.log.state c.args.d.now c.name_trace-2.new.named (traces_of s)) (sym c.in-Exists.is)
     (All-append (IsNamedMet c.name_trace-2.new.log.state c.args.d.now c.name_trace-2.new.named) c.in-Exists.met c.in-Exists.halves
-        (named-entries c.name_trace-2.new.log.state c.args.d.now c.name_trace-2.new.named c.in-Exists.met c.name_trace-2.ensures.right (accounted-there c.args.d.now c.in-Exists.var c.in-Exists.halves [] c.in-Exists.met (exists-accounted c.args.d.now c.in-Exists.var c.in-Exists.from c.in-Exists.node c.in-Exists.met c.in-Exists.halves h.0)) met)
-        (named-entries c.name_trace-2.new.log.state c.args.d.now c.name_trace-2.new.named c.in-Exists.halves c.name_trace-2.ensures.right (explained-there (λ a b. a || b) c.args.d.now [] c.in-Exists.halves (exists-halves c.args.d.now c.in-Exists.var c.in-Exists.from c.in-Exists.node c.in-Exists.met c.in-Exists.halves h.0)) halves))
+    (named-entries c.name_trace-2.new.log.state c.args.d.now c.name_trace-2.new.named c.in-Exists.met c.name_trace-2.ensures.right (accounted-there c.args.d.now c.in-Exists.var c.in-Exists.halves [] c.in-Exists.met (exists-accounted c.args.d.now c.in-Exists.var c.in-Exists.from c.in-Exists.node c.in-Exists.met c.in-Exists.halves h.0)) met)
+    (named-entries c.name_trace-2.new.log.state c.args.d.now c.name_trace-2.new.named c.in-Exists.halves c.name_trace-2.ensures.right (explained-there (λ a b. a || b) c.args.d.now [] c.in-Exists.halves (exists-halves c.args.d.now c.in-Exists.var c.in-Exists.from c.in-Exists.node c.in-Exists.met c.in-Exists.halves h.0)) halves))
 
 pub exists_unit-requires-clause-from : goal.exists_unit-requires-clause-from
 exists_unit-requires-clause-from g c =

@@ -41,7 +41,7 @@ unit-requires-clause-known g c =
     let named : AreNamed c.args.log.now.state c.args.d.now c.args.named.now c.in-And.met = subst (λ (s : Stage). AreNamed c.args.log.now.state c.args.d.now c.args.named.now (traces_of s)) c.in-And.is c.requires.named in
     arm_known c.joins.new.log.state c.args.d.now c.args.named.now c.in-And.node
     (has-name-grows c.args.log.now.state c.joins.new.log.state c.args.d.now c.args.named.now c.in-And.node (such-grows c.args.log.now c.joins.new.log _ _ c.joins.result c.joins.ensures.lines)
-        (and-named c.args.log.now.state c.args.d.now c.args.named.now c.in-And.met (record { u = c.in-And.u; v = c.in-And.v; w = c.in-And.node }) h.0 named).w_named)
+    (and-named c.args.log.now.state c.args.d.now c.args.named.now c.in-And.met (record { u = c.in-And.u; v = c.in-And.v; w = c.in-And.node }) h.0 named).w_named)
 
 pub unit-requires-clause-left : goal.unit-requires-clause-left
 unit-requires-clause-left g c =

@@ -65,13 +65,13 @@ unit-requires-clause-known g c =
     let named = All-parts (IsNamedMet c.args.log.now.state c.args.d.now c.args.named.now) c.in-Exists.met c.in-Exists.halves (subst (λ (s : Stage). AreNamed c.args.log.now.state c.args.d.now c.args.named.now (traces_of s)) c.in-Exists.is c.requires.named) in
     arm_known c.quantified.new.log.state c.args.d.now c.args.named.now c.alone.result.w
     (has-name-grows c.args.log.now.state c.quantified.new.log.state c.args.d.now c.args.named.now c.alone.result.w (such-grows c.args.log.now c.quantified.new.log _ _ c.quantified.result c.quantified.ensures.lines)
-        (subst (λ (m : Met). HasName c.args.log.now.state c.args.d.now c.args.named.now m.w) (sym c.alone.ensures) (exists-named c.args.log.now.state c.args.d.now c.args.named.now c.in-Exists.var c.in-Exists.f c.in-Exists.node c.in-Exists.met c.in-Exists.halves h.0 named.0).w_named))
+    (subst (λ (m : Met). HasName c.args.log.now.state c.args.d.now c.args.named.now m.w) (sym c.alone.ensures) (exists-named c.args.log.now.state c.args.d.now c.args.named.now c.in-Exists.var c.in-Exists.f c.in-Exists.node c.in-Exists.met c.in-Exists.halves h.0 named.0).w_named))
 
 pub unit-requires-clause-left : goal.unit-requires-clause-left
 unit-requires-clause-left g c =
     subst (λ (m : Met). IsUnit c.quantified.new.log.state.given c.args.named.now m.u c.args.from) (sym c.alone.ensures)
     (unit-grows c.args.log.now.state c.quantified.new.log.state c.args.named.now c.in-Exists.f c.args.from (such-grows c.args.log.now c.quantified.new.log _ _ c.quantified.result c.quantified.ensures.lines)
-        (subst (λ (s : Stage). IsUnit c.args.log.now.state.given c.args.named.now (left_of s) c.args.from) c.in-Exists.is c.requires.from))
+    (subst (λ (s : Stage). IsUnit c.args.log.now.state.given c.args.named.now (left_of s) c.args.from) c.in-Exists.is c.requires.from))
 
 pub unit-requires-clause-lemma : goal.unit-requires-clause-lemma
 unit-requires-clause-lemma g c =

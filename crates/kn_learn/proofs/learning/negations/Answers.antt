@@ -24,5 +24,5 @@ loop-place-preserved c =
     c.in_ok-push-2.ensures.items
     ∙ ap (λ (ls : List Literal). ls ++ c.negated-in-loop-place.result ∷ []) c.loop-place.invariant
     ∙ negations-last made (c.args.lowest ∷ take k rest) (get_or rest k 0) m c.negated-in-loop-place.result at
-        (c.negated-in-loop-place.ensures ∙ ap negated (c.lit_at-in-loop-place.ensures m at))
+    (c.negated-in-loop-place.ensures ∙ ap negated (c.lit_at-in-loop-place.ensures m at))
     ∙ ap (λ (ps : List ℕ). negations_at made (c.args.lowest ∷ ps)) (sym (take_more rest k 0 c.loop-place-test.true))

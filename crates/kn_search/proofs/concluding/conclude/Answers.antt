@@ -16,7 +16,7 @@ pub returns-in_err-id-clause-error : goal.returns-in_err-id-clause-error
 returns-in_err-id-clause-error g c =
     handed-on _ c.from_residual-in_err-id.result c.in_err-id.field-0.0 c.from_residual-in_err-id.ensures.1
     (λ forget deletions. line-fails c.args.engine.now.trail.vars forget deletions 1 c.args.log.now c.log_clause.new.log _ _ (Learned (clause c.deref.result.now) c.into_parts-lits.result.1.items) c.in_err-id.field-0.0
-        c.requires.whole (c.in_err-id.ensures.allows forget deletions) (omega arith) c.in_err-id.ensures.logs c.in_err-id.ensures.spelled)
+    c.requires.whole (c.in_err-id.ensures.allows forget deletions) (omega arith) c.in_err-id.ensures.logs c.in_err-id.ensures.spelled)
 
 pub take_clause-requires-clause-fresh : goal.take_clause-requires-clause-fresh
 take_clause-requires-clause-fresh g c = unused-id c.args.engine.now.live c.args.log.now.state.given c.in_ok-id.id c.requires.mirrors c.in_ok-id.ensures.id
@@ -29,9 +29,9 @@ pub returns-in_err-take_clause-clause-error : goal.returns-in_err-take_clause-cl
 returns-in_err-take_clause-clause-error g c =
     handed-on _ c.from_residual-in_err-take_clause.result Memory c.from_residual-in_err-take_clause.ensures.1
     (λ forget deletions.
-        let (steps, good, got) = c.in_ok-id.ensures.logs in
-        part-may c.args.engine.now.trail.vars forget deletions 1 0 c.args.log.now c.log_clause.new.log _ _
-        (part-line c.args.engine.now.trail.vars forget deletions c.args.log.now c.log_clause.new.log _ _ (Learned (clause c.deref.result.now) c.into_parts-lits.result.1.items) steps (c.in_ok-id.ensures.allows forget deletions) refl good c.in_ok-id.ensures.spelled got))
+    let (steps, good, got) = c.in_ok-id.ensures.logs in
+    part-may c.args.engine.now.trail.vars forget deletions 1 0 c.args.log.now c.log_clause.new.log _ _
+    (part-line c.args.engine.now.trail.vars forget deletions c.args.log.now c.log_clause.new.log _ _ (Learned (clause c.deref.result.now) c.into_parts-lits.result.1.items) steps (c.in_ok-id.ensures.allows forget deletions) refl good c.in_ok-id.ensures.spelled got))
 
 pub returns-clause-mirrors : goal.returns-clause-mirrors
 returns-clause-mirrors g c =

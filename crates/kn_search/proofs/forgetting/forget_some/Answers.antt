@@ -20,8 +20,8 @@ returns-in_err-delete-clause-error g c =
     let split = subst (λ (xs : List ℕ). IsSplit c.args.engine.now.trail.made xs c.in_ok-parts.parts.out.items c.in_ok-parts.parts.rest.items) c.deref.ensures.value c.in_ok-parts.ensures in
     handed-on _ c.from_residual-in_err-delete.result c.in_err-delete.field-0.0 c.from_residual-in_err-delete.ensures.1
     (λ vars. line-fails vars c.args.forget c.args.held.now.deletions 0 c.args.log.now c.delete.new.log _ _ (Delete c.deref-2.result.now) c.in_err-delete.field-0.0 c.requires.whole
-        (deletion-allowed vars c.args.forget c.args.held.now.deletions c.args.log.now.state c.args.engine.now.trail.made c.args.held.now.ids.items c.in_ok-parts.parts.out.items c.in_ok-parts.parts.rest.items c.deref-2.result.now (c.is_due.ensures.some c.if-not-is_due.false) (c.is_due.ensures.enough c.if-not-is_due.false) c.requires.held split c.deref-2.ensures.value)
-        (omega arith) c.in_err-delete.ensures.logs c.in_err-delete.ensures.spelled)
+    (deletion-allowed vars c.args.forget c.args.held.now.deletions c.args.log.now.state c.args.engine.now.trail.made c.args.held.now.ids.items c.in_ok-parts.parts.out.items c.in_ok-parts.parts.rest.items c.deref-2.result.now (c.is_due.ensures.some c.if-not-is_due.false) (c.is_due.ensures.enough c.if-not-is_due.false) c.requires.held split c.deref-2.ensures.value)
+    (omega arith) c.in_err-delete.ensures.logs c.in_err-delete.ensures.spelled)
 
 pub returns-clause-mirrors : goal.returns-clause-mirrors
 returns-clause-mirrors g c =
@@ -45,7 +45,10 @@ returns-clause-kept g c = λ first k.
 pub returns-clause-logs : goal.returns-clause-logs
 returns-clause-logs g c = λ vars.
     let split = subst (λ (xs : List ℕ). IsSplit c.args.engine.now.trail.made xs c.in_ok-parts.parts.out.items c.in_ok-parts.parts.rest.items) c.deref.ensures.value c.in_ok-parts.ensures in
-    let (steps, good, got) = c.in_ok-delete.ensures.logs in
-    (1, refl, part-line vars c.args.forget c.args.held.now.deletions c.args.log.now c.delete.new.log _ _ (Delete c.deref-2.result.now) steps
-        (deletion-allowed vars c.args.forget c.args.held.now.deletions c.args.log.now.state c.args.engine.now.trail.made c.args.held.now.ids.items c.in_ok-parts.parts.out.items c.in_ok-parts.parts.rest.items c.deref-2.result.now (c.is_due.ensures.some c.if-not-is_due.false) (c.is_due.ensures.enough c.if-not-is_due.false) c.requires.held split c.deref-2.ensures.value)
-        refl good c.in_ok-delete.ensures.spelled got)
+    let (steps, good, got) = c.in_ok-delete.ensures.logs in (
+      1,
+      refl,
+      part-line vars c.args.forget c.args.held.now.deletions c.args.log.now c.delete.new.log _ _ (Delete c.deref-2.result.now) steps
+          (deletion-allowed vars c.args.forget c.args.held.now.deletions c.args.log.now.state c.args.engine.now.trail.made c.args.held.now.ids.items c.in_ok-parts.parts.out.items c.in_ok-parts.parts.rest.items c.deref-2.result.now (c.is_due.ensures.some c.if-not-is_due.false) (c.is_due.ensures.enough c.if-not-is_due.false) c.requires.held split c.deref-2.ensures.value)
+          refl good c.in_ok-delete.ensures.spelled got,
+    )

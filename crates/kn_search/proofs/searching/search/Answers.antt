@@ -34,9 +34,9 @@ pub returns-in_err-refute-clause-error : goal.returns-in_err-refute-clause-error
 returns-in_err-refute-clause-error g c =
     handed-on _ c.from_residual-in_err-refute.result (error_of c.in_err-refute.field-0.0) c.from_residual-in_err-refute.ensures.1
     (ends-failed c.args.engine.now c.args.options.now c.args.log.now c.refute.new.log _ _ c.in_err-refute.field-0.0
-        (may-fail c.args.engine.now.trail.vars c.args.options.now.forget 0 c.loop-conflict.learned c.loop-conflict.held.deletions 0 c.args.options.now.conflicts c.args.log.now c.loop-conflict.log c.refute.new.log _ _ _ c.in_err-refute.field-0.0
-            (omega (arith, c.loop-conflict.invariant.within)) c.loop-conflict.invariant.logs
-            (c.in_err-refute.ensures.logs c.args.engine.now.trail.vars c.args.options.now.forget (0 + c.loop-conflict.held.deletions))))
+    (may-fail c.args.engine.now.trail.vars c.args.options.now.forget 0 c.loop-conflict.learned c.loop-conflict.held.deletions 0 c.args.options.now.conflicts c.args.log.now c.loop-conflict.log c.refute.new.log _ _ _ c.in_err-refute.field-0.0
+    (omega (arith, c.loop-conflict.invariant.within)) c.loop-conflict.invariant.logs
+    (c.in_err-refute.ensures.logs c.args.engine.now.trail.vars c.args.options.now.forget (0 + c.loop-conflict.held.deletions))))
 
 pub returns-then-level-eq0-clause-ends : goal.returns-then-level-eq0-clause-ends
 returns-then-level-eq0-clause-ends g c =
@@ -53,20 +53,20 @@ returns-in_err-id-clause-error g c =
     let vars = c.dive.ensures.vars ∙ c.loop-conflict.invariant.vars in
     handed-on _ c.from_residual-in_err-id.result (error_of c.in_err-id.field-0.0) c.from_residual-in_err-id.ensures.1
     (ends-failed c.args.engine.now c.args.options.now c.args.log.now c.conclude.new.log _ _ c.in_err-id.field-0.0
-        (may-fail c.args.engine.now.trail.vars c.args.options.now.forget 0 c.loop-conflict.learned c.loop-conflict.held.deletions 1 c.args.options.now.conflicts c.args.log.now c.loop-conflict.log c.conclude.new.log _ _ _ c.in_err-id.field-0.0
-            (omega (arith, c.loop-conflict.invariant.within, c.if-learned-options.false)) c.loop-conflict.invariant.logs
-            (fail-vars c.dive.new.engine.trail.vars c.args.engine.now.trail.vars c.args.options.now.forget (0 + c.loop-conflict.held.deletions) 1 c.loop-conflict.log c.conclude.new.log _ _ c.in_err-id.field-0.0 vars
-                (c.in_err-id.ensures.error c.args.options.now.forget (0 + c.loop-conflict.held.deletions)))))
+    (may-fail c.args.engine.now.trail.vars c.args.options.now.forget 0 c.loop-conflict.learned c.loop-conflict.held.deletions 1 c.args.options.now.conflicts c.args.log.now c.loop-conflict.log c.conclude.new.log _ _ _ c.in_err-id.field-0.0
+    (omega (arith, c.loop-conflict.invariant.within, c.if-learned-options.false)) c.loop-conflict.invariant.logs
+    (fail-vars c.dive.new.engine.trail.vars c.args.engine.now.trail.vars c.args.options.now.forget (0 + c.loop-conflict.held.deletions) 1 c.loop-conflict.log c.conclude.new.log _ _ c.in_err-id.field-0.0 vars
+    (c.in_err-id.ensures.error c.args.options.now.forget (0 + c.loop-conflict.held.deletions)))))
 
 pub returns-in_err-push-clause-error : goal.returns-in_err-push-clause-error
 returns-in_err-push-clause-error g c =
     let vars = c.dive.ensures.vars ∙ c.loop-conflict.invariant.vars in
     handed-on _ c.from_residual-in_err-push.result failure.Memory c.from_residual-in_err-push.ensures.1
     (ends-short c.args.engine.now c.args.options.now (c.loop-conflict.learned + 1) (c.loop-conflict.held.deletions + 0) c.args.log.now c.conclude.new.log _ _
-        (omega (arith, c.loop-conflict.invariant.within, c.if-learned-options.false))
-        (part-learned c.args.engine.now.trail.vars c.args.options.now.forget c.loop-conflict.learned c.loop-conflict.held.deletions c.args.log.now c.loop-conflict.log c.conclude.new.log _ _ _ c.loop-conflict.invariant.logs
-            (part-vars c.dive.new.engine.trail.vars c.args.engine.now.trail.vars c.args.options.now.forget (0 + c.loop-conflict.held.deletions) 1 0 c.loop-conflict.log c.conclude.new.log _ _ vars
-                (c.in_ok-id.ensures.logs c.args.options.now.forget (0 + c.loop-conflict.held.deletions)))))
+    (omega (arith, c.loop-conflict.invariant.within, c.if-learned-options.false))
+    (part-learned c.args.engine.now.trail.vars c.args.options.now.forget c.loop-conflict.learned c.loop-conflict.held.deletions c.args.log.now c.loop-conflict.log c.conclude.new.log _ _ _ c.loop-conflict.invariant.logs
+    (part-vars c.dive.new.engine.trail.vars c.args.engine.now.trail.vars c.args.options.now.forget (0 + c.loop-conflict.held.deletions) 1 0 c.loop-conflict.log c.conclude.new.log _ _ vars
+    (c.in_ok-id.ensures.logs c.args.options.now.forget (0 + c.loop-conflict.held.deletions)))))
 
 pub forget_some-requires-clause-whole : goal.forget_some-requires-clause-whole
 forget_some-requires-clause-whole g c =
@@ -79,15 +79,15 @@ loop-conflict-preserved g c =
     record {
       logs = part-turn c.args.engine.now.trail.vars c.args.options.now.forget c.loop-conflict.learned c.loop-conflict.held.deletions c.push.new.self.deletions more c.forget_some.new.held.deletions c.args.log.now c.loop-conflict.log c.conclude.new.log c.forget_some.new.log _ _ _ _ c.loop-conflict.invariant.logs
           (part-vars c.dive.new.engine.trail.vars c.args.engine.now.trail.vars c.args.options.now.forget (0 + c.loop-conflict.held.deletions) 1 0 c.loop-conflict.log c.conclude.new.log _ _ vars
-                (c.in_ok-id.ensures.logs c.args.options.now.forget (0 + c.loop-conflict.held.deletions)))
+          (c.in_ok-id.ensures.logs c.args.options.now.forget (0 + c.loop-conflict.held.deletions)))
           c.in_ok-push.ensures.deletions is forgot;
       vars = c.in_ok-forget_some.ensures.vars ∙ c.in_ok-id.ensures.vars ∙ vars;
       mirrors = c.in_ok-forget_some.ensures.mirrors;
       held = c.in_ok-forget_some.ensures.held;
       kept = c.in_ok-forget_some.ensures.kept c.args.engine.now.live
           (subst (AreKept c.args.engine.now.live c.conclude.new.engine.live) (sym c.in_ok-push.ensures.ids)
-              (c.in_ok-id.ensures.kept c.args.engine.now.live c.loop-conflict.held.ids.items
-                  (kept-moved c.args.engine.now.live c.loop-conflict.engine.live c.dive.new.engine.live c.loop-conflict.held.ids.items c.dive.ensures.live c.loop-conflict.invariant.kept)));
+          (c.in_ok-id.ensures.kept c.args.engine.now.live c.loop-conflict.held.ids.items
+          (kept-moved c.args.engine.now.live c.loop-conflict.engine.live c.dive.new.engine.live c.loop-conflict.held.ids.items c.dive.ensures.live c.loop-conflict.invariant.kept)));
       within = omega (arith, c.loop-conflict.invariant.within, c.if-learned-options.false);
       later = omega (arith, c.loop-conflict.invariant.later, c.conclude.ensures.later, c.forget_some.ensures.later);
     }
@@ -97,8 +97,8 @@ returns-in_err-forget_some-clause-error g c =
     let vars = c.dive.ensures.vars ∙ c.loop-conflict.invariant.vars in
     handed-on _ c.from_residual-in_err-forget_some.result (error_of c.in_err-forget_some.field-0.0) c.from_residual-in_err-forget_some.ensures.1
     (ends-failed c.args.engine.now c.args.options.now c.args.log.now c.forget_some.new.log _ _ c.in_err-forget_some.field-0.0
-        (turn-fails c.args.engine.now.trail.vars c.args.options.now.forget c.loop-conflict.learned c.loop-conflict.held.deletions c.push.new.self.deletions c.args.options.now.conflicts c.args.log.now c.loop-conflict.log c.conclude.new.log c.forget_some.new.log _ _ _ _ c.in_err-forget_some.field-0.0
-            (omega (arith, c.loop-conflict.invariant.within, c.if-learned-options.false)) c.loop-conflict.invariant.logs
-            (part-vars c.dive.new.engine.trail.vars c.args.engine.now.trail.vars c.args.options.now.forget (0 + c.loop-conflict.held.deletions) 1 0 c.loop-conflict.log c.conclude.new.log _ _ vars
-                (c.in_ok-id.ensures.logs c.args.options.now.forget (0 + c.loop-conflict.held.deletions)))
-            c.in_ok-push.ensures.deletions (c.in_err-forget_some.ensures.error c.args.engine.now.trail.vars)))
+    (turn-fails c.args.engine.now.trail.vars c.args.options.now.forget c.loop-conflict.learned c.loop-conflict.held.deletions c.push.new.self.deletions c.args.options.now.conflicts c.args.log.now c.loop-conflict.log c.conclude.new.log c.forget_some.new.log _ _ _ _ c.in_err-forget_some.field-0.0
+    (omega (arith, c.loop-conflict.invariant.within, c.if-learned-options.false)) c.loop-conflict.invariant.logs
+    (part-vars c.dive.new.engine.trail.vars c.args.engine.now.trail.vars c.args.options.now.forget (0 + c.loop-conflict.held.deletions) 1 0 c.loop-conflict.log c.conclude.new.log _ _ vars
+    (c.in_ok-id.ensures.logs c.args.options.now.forget (0 + c.loop-conflict.held.deletions)))
+    c.in_ok-push.ensures.deletions (c.in_err-forget_some.ensures.error c.args.engine.now.trail.vars)))
