@@ -1,0 +1,8 @@
+//! Solving, whole: the opening of a proof for an extraction, the search behind it, and the values that a model gives to
+//! auxiliary variables. The layer above uses `solve`; what an outcome says is in `specs/Solutions`.
+#![tactic(auto)]
+
+mod loading;
+mod solving;
+
+pub use solving::solve;
