@@ -7,7 +7,11 @@ import shlex
 from knfcheck import TOP, Folder, is_model, run
 
 CODE = re.compile(r"`([^`]*)`")
-FIRST = {"formula.cnf": "p cnf 1 2\n1 0\n-1 0\n"}
+FIRST = {
+    "formula.cnf": "p cnf 1 2\n1 0\n-1 0\n",
+    "hidden.cnf": "p cnf 5 6\n1 2 3 0\n-1 4 0\n-4 5 0\n-2 5 0\n-2 -4 0\n-3 -5 0\n",
+    "pairs.cnf": "p cnf 3 6\n-1 -2 0\n-1 -3 0\n-2 -3 0\n1 2 0\n1 3 0\n2 3 0\n",
+}
 
 
 def fences(name):
@@ -62,15 +66,17 @@ def blocks(tally, name):
 
 
 def session(tally, where, block):
-    """Commands behind `$`, each with what it prints. A proof's text may change with the search, so of `cat` only that the
-    file is there is compared; a model is evaluated."""
+    """Commands behind `$`, each with what it prints. A formula that is shown is the one that stands here; a proof's text may change
+    with the search, so of that only that the file is there is compared; a model is evaluated."""
     with Folder() as folder:
         for name, content in FIRST.items():
             folder.write(name, content)
         for part in block.split("$ ")[1:]:
             command, _, want = part.partition("\n")
             words = shlex.split(command)
-            if words[0] == "cat":
+            if words[0] == "cat" and words[1] in FIRST:
+                tally.test(f"{where} {command}", want == FIRST[words[1]])
+            elif words[0] == "cat":
                 tally.test(f"{where} {command}", all(os.path.exists(folder.at(w)) for w in words[1:]))
             elif words[0] == "knf":
                 status, said = run(words[1:], folder.path)
