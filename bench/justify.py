@@ -69,14 +69,14 @@ def measure(name, formula, hidden, base, given, folder):
         solvers.fail(name, f"{found[b'k']} klauses where {hidden} are hidden")
     lines, net = sum(found.values()) - 1, max(seconds - base, 1e-6)
     print(f"{name:>28} {clauses:>8} {found.get(b'k', 0):>7} {lines:>9} {lines / clauses:>7.1f} {size:>11} {seconds:>9.3f} {lines / net / 1e6:>7.2f}"
-          f" {size / net / 1e6:>7.1f} {peak / 1e6:>8.1f} {checked(name, answer, size, net, base, given, folder)}", flush=True)
+          f" {size / net / 1e6:>7.1f} {peak / 1e6:>8.1f} {checked(answer, size, net, base, given, folder)}", flush=True)
 
 
-def checked(name, answer, size, writing, base, given, folder):
+def checked(answer, size, writing, base, given, folder):
     """The seconds of checking, and their ratio to those of writing."""
     if size > solvers.LONGEST:
         return f"{'too long':>9}"
-    seconds = solvers.check(name, answer, folder, given.limit)
+    seconds = solvers.check("f.cnf", answer, folder, given.limit)
     return f"{'stopped':>9}" if seconds is None else f"{seconds:>9.3f} {max(seconds - base, 0) / writing:>7.2f}"
 
 
