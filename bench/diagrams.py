@@ -2,29 +2,10 @@
 builds. The environment variable `DIAGRAM_TESTS` names another one. Each case is a test of `src/grids.rt`, which
 is run alone; a test that fails ends the script."""
 
-import os
-import subprocess
-import sys
+from alone import Tests
 
-BUILT = os.path.join(os.path.dirname(__file__), "..", "crates", "kn_diagram", "out", "kn_diagram_tests")
-PROGRAM = os.path.abspath(os.environ.get("DIAGRAM_TESTS", BUILT))
+TESTS = Tests("kn_diagram", "DIAGRAM_TESTS")
 SMALL = "tests::calls_on_a_small_diagram"
-
-
-def run(test):
-    """The seconds of the processor that one test takes, with the program's start."""
-    child = subprocess.Popen([PROGRAM, test], stdout=subprocess.PIPE)
-    text = child.stdout.read()
-    _, status, usage = os.wait4(child.pid, 0)
-    child.returncode = os.waitstatus_to_exitcode(status)
-    if child.returncode != 0 or b"test result: ok" not in text:
-        sys.exit(f"{test}: status {child.returncode}, {text[-200:]!r}")
-    return usage.ru_utime + usage.ru_stime
-
-
-def least(test):
-    """The least of three runs."""
-    return min(run(test) for _ in range(3))
 
 
 def below(n, bound):
@@ -38,14 +19,14 @@ def grids(base):
     first = None
     for n in (16, 32, 64, 128):
         nodes, walked = n // 2 * (n - n // 2 + 1), below(n, n // 2)
-        net = max(least(f"grids::grid_of_{n}_literals") - base, 1e-6)
+        net = max(TESTS.least(f"grids::grid_of_{n}_literals") - base, 1e-6)
         first = first or net / nodes
         by_node = net / nodes
         print(f"{n:>6} {nodes:>8} {walked:>12} {net:>9.4f} {by_node * 1e6:>9.2f} {net / walked * 1e9:>9.0f} {by_node / first:>7.2f}", flush=True)
 
 
 def main():
-    grids(least(SMALL))
+    grids(TESTS.least(SMALL))
 
 
 if __name__ == "__main__":

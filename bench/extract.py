@@ -44,6 +44,13 @@ def counts(given):
                 break
 
 
+def at_most_two(given):
+    """One counter each, whose elimination joins more and more clauses."""
+    for n in (16, 32) if given.small else (16, 32, 64, 96, 128):
+        formula = families.counts(n, 2, 1)
+        yield Case(f"one at most 2 of {n}", counters.counted(formula), klauses(formula), True)
+
+
 def at_most_one(given):
     for n in (10, 100) if given.small else (10, 30, 100, 256, 257, 1_000):
         formula = families.at_most_one(n)
@@ -61,7 +68,7 @@ def plain(given):
         yield Case(f"{n // 2} of 2, {2 * n} of 3", families.twos_and_threes(n, n // 2, 2 * n))
 
 
-FAMILIES = {"blocks": blocks, "counters": counts, "pairs": at_most_one, "plain": plain}
+FAMILIES = {"blocks": blocks, "counters": counts, "twos": at_most_two, "pairs": at_most_one, "plain": plain}
 
 
 def extraction(text):

@@ -4,6 +4,7 @@ variables collide in a hash table with a fixed seed."""
 
 import random
 
+from colliding import colliding
 from measure import table, temporary
 
 VARIABLES = 100_000
@@ -42,17 +43,9 @@ def klauses(size):
         yield line
 
 
-def folded(variable):
-    """The hash of a number by the kit's fast hasher, whose seed is fixed."""
-    product = (0x243F6A8885A308D3 ^ variable) * (0x9E3779B97F4A7C15 ^ 16)
-    state = (product ^ product >> 64) % 2**64
-    return (state ^ state >> 32) % 2**32
-
-
 def colliding_klauses(count=10, literals=100_000):
-    """Klauses over the variables whose hashes begin in the first groups of a table of 2^14."""
-    variables = sorted(range(1, 1_000_001), key=lambda v: folded(v) % 2**14)[:literals]
-    line = b"k 1 " + b" ".join(b"%d" % v for v in variables) + b" 0\n"
+    """Klauses over variables whose hashes collide."""
+    line = b"k 1 " + b" ".join(b"%d" % v for v in colliding(range(1, 1_000_001), literals)) + b" 0\n"
     yield b"p knf 1000000 %d\n" % count
     for _ in range(count):
         yield line
