@@ -6,3 +6,6 @@ mod groups;
 mod variables;
 
 pub use groups::rebuild;
+
+#[cfg(test)]
+mod tests;
