@@ -1,2 +1,4 @@
 mod LiveLemmas
 mod SolvingLemmas
+mod LearningLemmas
+pub mod Public

@@ -2,7 +2,9 @@
 //! auxiliary variables. The layer above uses `solve`; what an outcome says is in `specs/Solutions`.
 #![tactic(auto)]
 
+mod laws;
 mod loading;
 mod solving;
 
+pub use laws::solver_proofs_learn_few;
 pub use solving::solve;

@@ -83,7 +83,7 @@ check_complete formula proof text more answer told sound also (files.no_formula 
 
 solve_complete : (budget forget : ℕ) (formula : Change Source) (proof : Change Sink) (text : List ℕ) (answer : Answer) (told : Option (List ℕ)) → IsSound formula text → IsQuiet proof
     → SolveRow budget forget formula proof answer told → Concludes budget forget text answer
-solve_complete budget forget formula proof text answer told sound quiet (files.accepted f accepts (solves.model values bytes writes holds)) = (f, spelled formula text f sound accepts)
+solve_complete budget forget formula proof text answer told sound quiet (files.accepted f accepts (solves.model values bytes writes holds rule)) = (f, spelled formula text f sound accepts)
 solve_complete budget forget formula proof text answer told sound quiet (files.accepted f accepts (solves.refuted bytes writes is_proof none)) = (f, spelled formula text f sound accepts)
 solve_complete budget forget formula proof text answer told sound quiet (files.accepted f accepts (solves.unknown bytes writes spent small)) = (f, spelled formula text f sound accepts, small)
 solve_complete budget forget formula proof text answer told sound quiet (files.accepted f accepts (solves.no_memory front)) = tt

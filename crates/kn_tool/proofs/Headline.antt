@@ -47,7 +47,7 @@ GotText out None = Unit {0}
 GotText out (Some text) = Got out.old.written out.new.written text
 
 solve_headline : (budget forget : ℕ) (formula : Change Source) (proof out : Change Sink) (answer : Answer) (told : Option (List ℕ)) → GotText out told → SolveRow budget forget formula proof answer told → SolveHeadline budget forget formula proof out answer
-solve_headline budget forget formula proof out answer told got (files.accepted f accepts (solves.model values bytes writes holds)) = (f, values, bytes, accepts, writes, holds, got)
+solve_headline budget forget formula proof out answer told got (files.accepted f accepts (solves.model values bytes writes holds rule)) = (f, values, bytes, accepts, writes, holds, rule, got)
 solve_headline budget forget formula proof out answer told got (files.accepted f accepts (solves.refuted bytes writes is_proof none)) = (f, bytes, accepts, writes, is_proof, none)
 solve_headline budget forget formula proof out answer told got (files.accepted f accepts (solves.unknown bytes writes spent small)) = (refl, (f, bytes, accepts, writes, spent))
 solve_headline budget forget formula proof out answer told got (files.accepted f accepts (solves.no_memory front)) = tt

@@ -4,6 +4,7 @@ pub mod Shapes
 pub mod Replies
 pub mod Readings
 pub mod Reading
+pub mod Solutions
 pub mod Solved
 pub mod Limits
 pub mod Complete

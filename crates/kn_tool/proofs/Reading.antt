@@ -1,4 +1,4 @@
--- The text of a proof that was logged is read as the lines of an opening without a line and of a search.
+-- The text of a proof that was logged is read as its lines; each learned clause among them is new.
 use Rattle.std.proofs.Common.{◌≡◌, ℕ, ◌+◌, ◌<◌, ◌^◌, ◌++◌, ◌∷◌, true, cond, List, [], map, length, refl, sym, ap, ◌∙◌, subst}
 use Rattle.std.specs.List.{AllByRecursion, flat_map}
 use Rattle.kn_logic.specs.Formulas.{Problem}
@@ -9,11 +9,14 @@ use Rattle.kn_lines.specs.declared.line.Line.TheVariants.{Header, Define, Lemma,
 use Rattle.kn_lines.specs.Lines.{line_words}
 use Rattle.kn_lines.proofs.Public.{written_words_spell, written_is_plain, written_is_content, spelled_is_in_range}
 use Rattle.kn_rules.specs.States.{ProofState, start}
-use Rattle.kn_rules.specs.Stepping.{is_deletion}
+use Rattle.kn_rules.specs.Stepping.{StepsBy, is_deletion}
 use Rattle.kn_rules.specs.Searching.{Allows, SearchesBy}
 use Rattle.kn_log.specs.Logs.{header_of, line_bytes, IsSpelled}
 use Rattle.kn_log.specs.Written.{AreSpelled, lines_bytes}
-use Rattle.kn_tool.specs.SolverProofs.{AreRead, Reads, IsNewLine, AreNew, AllNew, IsSolverProof}
+use Rattle.kn_extract.specs.Extractions.{Found}
+use Rattle.kn_opening.specs.Openings.{IsOpeningLine, AreOpeningLines}
+use Rattle.kn_solve.specs.Solutions.{IsSolverProof}
+use Rattle.kn_tool.specs.SolverProofs.{AreRead, Reads, IsNewLine, AreNew, AllNew}
 
 plain : (lines : List Line) → AreSpelled lines → AllByRecursion IsPlainLine (map line_words lines)
 plain [] h = tt
@@ -31,24 +34,12 @@ are_read : (lines : List Line) (number : ℕ) → AreSpelled lines → AreRead (
 are_read [] number h = tt
 are_read (line ∷ lines) number h = (h.0, are_read lines (number + 1) h.1)
 
-reads : (f : Problem) (lines : List Line) → f.vars < 2 ^ 64 → length f.constraints < 2 ^ 64 → AreSpelled lines → Reads f (lines_bytes (header_of f ∷ lines)) lines
+pub reads : (f : Problem) (lines : List Line) → f.vars < 2 ^ 64 → length f.constraints < 2 ^ 64 → AreSpelled lines → Reads f (lines_bytes (header_of f ∷ lines)) lines
 reads f lines v c h =
     let header : IsSpelled (header_of f) = written_words_spell (Header f.vars (length f.constraints)) tt (v, c) in
     subst (λ (texts : List TextLine). AreRead texts (header_of f ∷ lines))
     (sym (ap content_of (by_words (header_of f ∷ lines)) ∙ content_of_lines (map line_words (header_of f ∷ lines)) (plain (header_of f ∷ lines) (header, h)) (all_content (header_of f ∷ lines))))
     (are_read (header_of f ∷ lines) 1 (header, h))
-
-pub solver-proof : (f : Problem) (forget : ℕ) (lines : List Line) (last : ProofState) → f.vars < 2 ^ 64 → length f.constraints < 2 ^ 64 → AreSpelled lines → SearchesBy f.vars forget 0 (start f) lines last → IsSolverProof f forget (lines_bytes (header_of f ∷ lines))
-solver-proof f forget lines last v c h searches = record {
-  opening = [];
-  body = lines;
-  middle = start f;
-  last = last;
-  reads = reads f lines v c h;
-  opens = refl;
-  before = tt;
-  searches = searches;
-}
 
 new_line : (vars forget deletions : ℕ) (s : ProofState) (line : Line) → Allows vars forget deletions s line → IsNewLine vars s line
 new_line vars forget deletions s (Header n k) h = tt
@@ -59,10 +50,29 @@ new_line vars forget deletions s (Klause c root unit) h = tt
 new_line vars forget deletions s (Unfold id root) h = tt
 new_line vars forget deletions s (Delete ids) h = tt
 
-are_new : (vars forget deletions : ℕ) (s last : ProofState) (lines : List Line) → SearchesBy vars forget deletions s lines last → AreNew vars s lines
-are_new vars forget deletions s last [] h = tt
-are_new vars forget deletions s last (line ∷ lines) (next, steps, allows, end, more) =
-    (next, steps, new_line vars forget deletions s line allows, are_new vars forget (deletions + cond (is_deletion line) 1 0) next last lines more)
+searched-new : (vars forget deletions : ℕ) (s last : ProofState) (lines : List Line) → SearchesBy vars forget deletions s lines last → AreNew vars s lines
+searched-new vars forget deletions s last [] h = tt
+searched-new vars forget deletions s last (line ∷ lines) (next, steps, allows, end, more) =
+    (next, steps, new_line vars forget deletions s line allows, searched-new vars forget (deletions + cond (is_deletion line) 1 0) next last lines more)
 
-pub all-new : (f : Problem) (forget : ℕ) (lines : List Line) (last : ProofState) → f.vars < 2 ^ 64 → length f.constraints < 2 ^ 64 → AreSpelled lines → SearchesBy f.vars forget 0 (start f) lines last → AllNew f (lines_bytes (header_of f ∷ lines))
-all-new f forget lines last v c h searches = (lines, reads f lines v c h, are_new f.vars forget 0 (start f) last lines searches)
+-- a line of an opening is no learned clause
+opening_line : (vars : ℕ) (s : ProofState) (line : Line) → IsOpeningLine line → IsNewLine vars s line
+opening_line vars s (Header n k) h = tt
+opening_line vars s (Define x high low) h = tt
+opening_line vars s (Lemma c hints) h = tt
+opening_line vars s (Learned c hints) h = absurd h
+opening_line vars s (Klause c root unit) h = tt
+opening_line vars s (Unfold id root) h = tt
+opening_line vars s (Delete ids) h = tt
+
+opened-new : (vars : ℕ) (s middle : ProofState) (opening body : List Line) → AreOpeningLines opening → StepsBy s opening middle → AreNew vars middle body → AreNew vars s (opening ++ body)
+opened-new vars s middle [] body h e new = subst (λ (u : ProofState). AreNew vars u body) (sym e) new
+opened-new vars s middle (line ∷ opening) body h (next, steps, more) new = (next, steps, opening_line vars s line h.0, opened-new vars next middle opening body h.1 more new)
+
+pub all-new : (f : Problem) (forget : ℕ) (found : List Found) (opening body : List Line) (last : ProofState) → f.vars < 2 ^ 64 → length f.constraints < 2 ^ 64 → AreSpelled (opening ++ body) → IsSolverProof f forget found opening body last
+    → AllNew f (lines_bytes (header_of f ∷ opening ++ body))
+all-new f forget found opening body last v c h proof = (
+  opening ++ body,
+  reads f (opening ++ body) v c h,
+  opened-new f.vars (start f) proof.middle opening body proof.lines proof.opens (searched-new f.vars forget 0 proof.middle last body proof.searches),
+)

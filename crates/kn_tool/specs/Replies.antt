@@ -23,7 +23,7 @@ use Rattle.kn_tool.specs.declared.reply.Reply.TheVariants as reply
 use Rattle.kn_tool.specs.Answers.{answer_text, usage_text}
 use Rattle.kn_tool.specs.Changes.{Change, Sink}
 use Rattle.kn_tool.specs.Files.{Rows}
-use Rattle.kn_tool.specs.Solves.{Writes, IsSmall, satisfiable_text}
+use Rattle.kn_tool.specs.Solves.{Writes, HasRuleValues, IsSmall, satisfiable_text}
 
 -- the reply has a row
 abbrev pub IsReply : Rows → Reply → Type 0
@@ -74,9 +74,9 @@ IsTold (reply.Text answer text) out result = Sent answer text.items out result
 IsTold reply.Usage out result = Sent Usage usage_text out result
 IsTold (reply.Silent answer) out result = (result ≡ answer) × (out.new.written ≡ out.old.written)
 
--- what a search found: a proof was written, and the outcome says this of the formula
+-- what solving found: a proof was written, and the outcome says this of the formula
 abbrev pub OutcomeSays : ℕ → ℕ → Problem → List ℕ → Outcome → Type 0
-OutcomeSays budget forget f bytes (outcome.Model values) = Satisfies values f
+OutcomeSays budget forget f bytes (outcome.Model values) = Satisfies values f × HasRuleValues f values
 OutcomeSays budget forget f bytes outcome.Refuted = IsProof f bytes
 OutcomeSays budget forget f bytes (outcome.Spent learned) = (learned ≡ budget) × (learned_count bytes ≡ learned) × IsSmall budget forget f.vars
 

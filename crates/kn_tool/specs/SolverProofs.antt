@@ -1,18 +1,18 @@
 -- What the proof that `solve` writes is made of: an opening, and behind it the lines of a search.
-use Rattle.std.specs.Prelude.{ℕ, ◌≡◌, ◌++◌, ◌∷◌, Bool, true, false, List, [], Ok}
-use Rattle.std.specs.List.{AllByRecursion}
+use Rattle.std.specs.Prelude.{ℕ, ◌≡◌, ◌++◌, ◌∷◌, List, [], Ok}
 use Rattle.kn_logic.specs.Literals.{AreKnown}
 use Rattle.kn_logic.specs.Formulas.{Problem}
 use Rattle.kn_logic.specs.Newness.{IsNew}
 use Rattle.kn_text.specs.Lines.{Line as TextLine, content_of}
 use Rattle.kn_lines.specs.Lines.{SpellsWords}
 use Rattle.kn_lines.specs.declared.line.Line.{Line}
-use Rattle.kn_lines.specs.declared.line.Line.TheVariants.{Lemma, Learned}
+use Rattle.kn_lines.specs.declared.line.Line.TheVariants.{Learned}
 use Rattle.kn_rules.specs.States.{ProofState, start}
-use Rattle.kn_rules.specs.Steps.{step, is_empty}
-use Rattle.kn_rules.specs.Stepping.{StepsBy}
-use Rattle.kn_rules.specs.Searching.{searched, SearchesBy}
+use Rattle.kn_rules.specs.Steps.{step}
+use Rattle.kn_rules.specs.Searching.{searched}
 use Rattle.kn_log.specs.Logs.{header_of}
+use Rattle.kn_extract.specs.Extractions.{Found}
+use Rattle.kn_solve.specs.Solutions as solutions
 
 -- the lines of a text spell these lines of a proof, one after another
 abbrev pub AreRead : List TextLine → List Line → Type 0
@@ -39,22 +39,16 @@ AreNew vars s (line ∷ lines) = (next : ProofState) × (step s line ≡ Ok next
 abbrev pub AllNew : Problem → List ℕ → Type 0
 AllNew f bytes = (lines : List Line) × Reads f bytes lines × AreNew f.vars (start f) lines
 
--- a learned clause, or a lemma without literals: with the first of these the opening ends
-abbrev pub ends_opening : Line → Bool
-ends_opening (Learned c hints) = true
-ends_opening (Lemma c hints) = is_empty c.lits
-ends_opening other = false
-
--- The proof of a solver that may forget learned clauses where so many are live: its opening is the lines before the first
--- learned clause and the first lemma without literals, whichever comes first. Behind it stand only lines that a search
--- may log: learned clauses, deletions of learned clauses where enough are live, and at last perhaps the lemma
--- without literals; none of them rests on a definition, a lemma or an unfolded klause of the opening.
+-- The text is the proof of a solver that may forget learned clauses where so many are live. Its opening puts klauses in
+-- place of the clauses that hid them: it is the lines before the first learned clause and the first lemma without
+-- literals, whichever comes first. Behind it the constraints of the file and the klauses that are live are those of the
+-- formula that remains of the extraction, equally many of each, the literals of a klause in any order. Then come only
+-- lines that a search may log: learned clauses, deletions of learned clauses where enough are live, and at last perhaps
+-- the lemma without literals; none of them rests on a definition, a lemma or an unfolded klause of the opening.
 pub record IsSolverProof (f : Problem) (forget : ℕ) (bytes : List ℕ) : Type 0 where
+  pub found : List Found
   pub opening : List Line
   pub body : List Line
-  pub middle : ProofState
   pub last : ProofState
   pub reads : Reads f bytes (opening ++ body)
-  pub opens : StepsBy (start f) opening middle
-  pub before : AllByRecursion (λ line. ends_opening line ≡ false) opening
-  pub searches : SearchesBy f.vars forget 0 middle body last
+  pub shape : solutions.IsSolverProof f forget found opening body last

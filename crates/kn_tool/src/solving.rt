@@ -1,5 +1,5 @@
-ghost use Rattle.std.specs.Prelude.{◌≡◌, ◌≤◌, ◌^◌, None, IfOk, IfErr};
-ghost use Rattle.kn_logic.specs.Formulas.{IsFormula};
+ghost use Rattle.std.specs.Prelude.{◌≡◌, ◌≤◌, ◌<◌, ◌^◌, length, None, IfOk, IfErr};
+ghost use Rattle.kn_format.specs.Texts.{IsWithinLimits};
 ghost use Rattle.kn_tool.specs.Changes.{source_change, sink_change};
 ghost use Rattle.kn_tool.specs.Solves.{SolveRow, SolvedRow, satisfiable_text};
 ghost use Rattle.kn_tool.specs.Replies.{IsReply, Finds, IsReplyOf};
@@ -10,14 +10,15 @@ use crate::files::understand;
 use crate::reply::{Reply, reply_of, short_memory};
 use crate::{Answer, Which};
 use kn_bytes::{Sink, Source};
+use kn_extract::{Extraction, extract};
 use kn_format::write_model;
-use kn_log::{Log, LogError};
 use kn_logic::{Assignment, Formula, NoMemory};
-use kn_search::{Options, Outcome, SearchError, engine_of, search};
+use kn_search::{Options, Outcome, SearchError};
+use kn_solve::solve;
 use std::alloc::Global;
 
-/// The reply of `solve`: the formula is read and understood, then searched; each line of the proof is written as
-/// it is made.
+/// The reply of `solve`: the formula is read and understood, and its hidden counts are taken out. Then it is solved; each
+/// line of the proof is written as it is made.
 pub fn solve_file<F: Source, P: Sink>(
     alloc: Global,
     formula: &mut F,
@@ -30,44 +31,39 @@ pub fn solve_file<F: Source, P: Sink>(
     ensures later_proof { P.faults proof.old ≤ P.faults proof.new }
 {
     match understand(alloc, formula) {
-        Ok(f) => solve_formula(alloc, &f, proof, options),
+        Ok(f) => solve_formula(alloc, f, proof, options),
         Err(reply) => reply,
     }
 }
 
-fn solve_formula<P: Sink>(alloc: Global, f: &Formula, proof: &mut P, options: Options) -> Reply
-    requires vars { f.now.vars ≤ 2 ^ 32 }
-    requires formula { IsFormula f.now }
-    ensures reply { IsReply (SolvedRow options.conflicts options.forget (sink_change P.Sink proof.old proof.new) f.now) result }
+fn solve_formula<P: Sink>(alloc: Global, f: Formula, proof: &mut P, options: Options) -> Reply
+    requires { IsWithinLimits f }
+    ensures reply { IsReply (SolvedRow options.conflicts options.forget (sink_change P.Sink proof.old proof.new) f) result }
     ensures later { P.faults proof.old ≤ P.faults proof.new }
 {
-    match search_formula(alloc, f, proof, options) {
+    let Ok(e) = extract(alloc, f) else {
+        return short_memory();
+    };
+    match solve_extraction(alloc, &e, proof, options) {
         Ok(outcome) => reply_of_outcome(alloc, outcome),
         Err(answer) => Reply::Silent { answer },
     }
 }
 
-/// What a search finds, or the answer that has no text.
-fn search_formula<P: Sink>(
+/// What is found of the formula that an extraction began with, or the answer that has no text.
+pub(crate) fn solve_extraction<P: Sink>(
     alloc: Global,
-    f: &Formula,
+    e: &Extraction,
     proof: &mut P,
     options: Options,
 ) -> Result<Outcome, Answer>
-    requires { f.now.vars ≤ 2 ^ 32 }
-    ensures found { IfOk result (Finds options.conflicts options.forget f.now (sink_change P.Sink proof.old proof.new)) }
-    ensures err { IfErr result (λ answer. SolvedRow options.conflicts options.forget (sink_change P.Sink proof.old proof.new) f.now answer None) }
+    requires vars { e.now.original.vars ≤ 2 ^ 32 }
+    requires count { length e.now.original.constraints < 2 ^ 64 }
+    ensures found { IfOk result (Finds options.conflicts options.forget e.now.original (sink_change P.Sink proof.old proof.new)) }
+    ensures err { IfErr result (λ answer. SolvedRow options.conflicts options.forget (sink_change P.Sink proof.old proof.new) e.now.original answer None) }
     ensures later { P.faults proof.old ≤ P.faults proof.new }
 {
-    let mut log = match Log::new(alloc, f, proof) {
-        Ok(log) => log,
-        Err(LogError::Memory) => return Err(Answer::NoMemory),
-        Err(LogError::Fault) => return Err(PROOF_FAULT),
-    };
-    let Ok(mut engine) = engine_of(alloc, f) else {
-        return Err(Answer::NoMemory);
-    };
-    match search(alloc, &mut engine, &mut log, proof, &options) {
+    match solve(alloc, e, proof, &options) {
         Ok(outcome) => Ok(outcome),
         Err(SearchError::Memory) => Err(Answer::NoMemory),
         Err(SearchError::WriteFault) => Err(PROOF_FAULT),
