@@ -1,6 +1,5 @@
--- What one more literal, block or link adds, and how many constraints and further variables there are.
+-- What one more literal, block or link adds, and how many constraints there are.
 use Rattle.std.proofs.Common.{◌≡◌, ℕ, zero, suc, ◌+◌, ◌-◌, ◌*◌, ◌≤◌, ◌<◌, ◌^◌, min, true, List, [], ◌∷◌, ◌++◌, length, length-append, map, refl, sym, ap, ◌∙◌, subst, append_assoc, arith}
-use Rattle.std.proofs.lemmas.Bool.{cond_both}
 use Rattle.std.proofs.Math.Numerals.{add-one}
 use Rattle.kn_logic.specs.Literals.{Literal, negated}
 use Rattle.kn_logic.specs.Constraints.{Bounded, klause}
@@ -8,8 +7,7 @@ use Rattle.kn_logic.specs.Formulas.{Problem}
 use Rattle.kn_counter.specs.declared.error.CountError.{CountError}
 use Rattle.kn_counter.specs.declared.error.CountError.TheVariants.{TooLarge, Memory}
 use Rattle.kn_counter.specs.Sizes.{IfTooLarge}
-use Rattle.kn_counter.specs.Counters.{further_of, is_counted, all_further}
-use Rattle.kn_gen.specs.Blocks.{literals_from, block, at_most, at_least, block_klauses, blocks, link, links, block_formula, generated}
+use Rattle.kn_gen.specs.Blocks.{literals_from, block, at_most, at_least, block_klauses, blocks, link, links, block_formula}
 
 pub literals-more : (lits whole : List Literal) (first k n m : ℕ) (l : Literal) → n ≡ suc m → l ≡ record { variable = first + k; positive = true } → lits ++ literals_from (first + k) n ≡ whole → (lits ++ l ∷ []) ++ literals_from (first + (k + 1)) m ≡ whole
 literals-more lits whole first k n m l e is h =
@@ -58,28 +56,6 @@ length-links (suc t) = length-append (links t) (link (suc t) ∷ []) ∙ omega (
 
 pub few-constraints : (n : ℕ) → n ≤ 200 → length (block_formula n).constraints ≤ 10000000
 few-constraints n h = omega (arith, h, length-append (blocks n n) (links (n - 1)), length-blocks n n, length-links (n - 1))
-
--- the number of further variables
-further-append : (xs ys : List Bounded) → all_further (xs ++ ys) ≡ all_further xs + all_further ys
-further-append [] ys = omega arith
-further-append (x ∷ xs) ys = omega (arith, further-append xs ys)
-
-few-of : (bound : ℕ) → further_of bound 8 ≤ 56
-few-of bound = cond_both (is_counted bound 8) ((8 - 1) * (8 - bound)) 0 (λ x. x ≤ 56) (λ _. omega arith) (λ _. omega arith)
-
-block-further : (n t : ℕ) → all_further (block_klauses n t) ≤ 112
-block-further n t = omega (arith, few-of (8 - at_most n t), few-of (at_least n t))
-
-blocks-further : (n t : ℕ) → all_further (blocks n t) ≤ 112 * t
-blocks-further n zero = omega arith
-blocks-further n (suc t) = omega (arith, further-append (blocks n t) (block_klauses n (suc t)), blocks-further n t, block-further n (suc t))
-
-links-further : (t : ℕ) → all_further (links t) ≡ 0
-links-further zero = refl
-links-further (suc t) = further-append (links t) (link (suc t) ∷ []) ∙ omega (arith, links-further t)
-
-pub few-variables : (n : ℕ) → n ≤ 200 → (generated n).vars ≤ 10000000
-few-variables n h = omega (arith, h, further-append (blocks n n) (links (n - 1)), blocks-further n n, links-further (n - 1))
 
 pub not-large : (e : CountError) (vars : ℕ) → vars ≤ 10000000 → IfTooLarge e (λ n. (10000000 < vars) × (n ≡ min vars (2 ^ 64 - 1))) → IfTooLarge e (λ n. ⊥)
 not-large (TooLarge n) vars few large = omega (arith, few, large.0)

@@ -1,3 +1,4 @@
 pub mod Truth
 pub mod Fitting
 pub mod Adding
+pub mod Counting

@@ -46,3 +46,12 @@ block_formula n = record { vars = 8 * n; constraints = blocks n n ++ links (n - 
 -- the formula that is generated: the blocks in clauses alone, their counts hidden in sequential counters
 abbrev pub generated : ℕ → Problem
 generated n = counted (block_formula n)
+
+-- A counter for at most k of eight literals has k columns, with 7 * k further variables and 13 * k + 7 clauses. How many
+-- columns the two counters of block t of n have, and those of the first so many blocks.
+abbrev pub columns : ℕ → ℕ → ℕ
+columns n t = at_most n t + (8 - at_least n t)
+
+abbrev pub all_columns : ℕ → ℕ → ℕ
+all_columns n zero = 0
+all_columns n (suc t) = all_columns n t + columns n (suc t)

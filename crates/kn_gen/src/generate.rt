@@ -1,5 +1,7 @@
 //! The generated formula: the blocks, turned into clauses.
-ghost use Rattle.std.specs.Prelude.{◌≡◌, ◌≤◌, IfOk};
+ghost use Rattle.std.specs.Prelude.{◌≡◌, ◌≤◌, true, IfOk};
+ghost use Rattle.std.specs.List.{AllByRecursion};
+ghost use Rattle.kn_logic.specs.Constraints.{is_clause};
 ghost use Rattle.kn_logic.specs.Formulas.{IsUnsatisfiable};
 ghost use Rattle.kn_counter.specs.Sizes.{IfTooLarge};
 ghost use Rattle.kn_gen.specs.Blocks.{generated};
@@ -18,6 +20,7 @@ pub fn make_formula(alloc: Global, blocks: u32) -> Result<Formula, NoMemory>
     requires first { 1 ≤ blocks }
     requires last { blocks ≤ 200 }
     ensures formula { IfOk result (λ f. f ≡ generated blocks) }
+    ensures clauses { IfOk result (λ f. AllByRecursion (λ c. is_clause c ≡ true) f.constraints) }
     ensures refuted { IfOk result (λ f. IsUnsatisfiable f) }
 {
     let klauses = block_formula(alloc, blocks as u64)?;

@@ -8,7 +8,7 @@ mod generate;
 mod laws;
 
 pub use generate::{MAX_BLOCKS, make_formula};
-pub use laws::blocks_have_no_model;
+pub use laws::{blocks_are_counted, blocks_have_no_model};
 
 #[cfg(test)]
 mod tests;
