@@ -1,3 +1,6 @@
+mod faults;
+mod solving;
+
 use crate::{Answer, Which, run};
 use kn_bytes::{MemSink, MemSource};
 use kn_format::read_formula;
@@ -17,6 +20,8 @@ const PIGEONS: &str =
 
 const PAIRS: &str = "p cnf 3 6\n-1 -2 0\n-1 -3 0\n-2 -3 0\n1 2 0\n1 3 0\n2 3 0\n";
 
+const EACH_PAIR: &[u8] = b"p cnf 2 4\n1 2 0\n1 -2 0\n-1 2 0\n-1 -2 0\n";
+
 /// What a run answered and wrote.
 #[derive(Drop)]
 struct Seen {
@@ -34,14 +39,20 @@ fn source(alloc: Global, text: &str, fails: bool) -> Result<MemSource, AllocErro
     Ok(MemSource::new(Vec::from_slice(alloc, text.as_bytes())?, 3, failing))
 }
 
+/// A source of bytes that does not fail.
+fn source_of(alloc: Global, bytes: &[u8]) -> Result<MemSource, AllocError> {
+    Ok(MemSource::new(Vec::from_slice(alloc, bytes)?, 5, Vec::new(alloc)))
+}
+
 fn run_on(
     alloc: Global,
     words: &[&str],
     formula: MemSource,
     proof: MemSource,
 ) -> Result<Seen, AllocError> {
-    let sink = MemSink::new(alloc, 4000, 4, Vec::new(alloc))?;
-    run_into(alloc, words, formula, proof, sink)
+    let out = MemSink::new(alloc, 40_000, 7, Vec::new(alloc))?;
+    let written = MemSink::new(alloc, 400_000, 4, Vec::new(alloc))?;
+    run_into(alloc, words, formula, proof, out, written)
 }
 
 fn run_into(
@@ -49,13 +60,13 @@ fn run_into(
     words: &[&str],
     mut formula: MemSource,
     mut proof: MemSource,
+    mut out: MemSink,
     mut written: MemSink,
 ) -> Result<Seen, AllocError> {
     let mut list = Vec::new(alloc);
     for word in words {
         list.push(Vec::from_slice(alloc, word.as_bytes())?)?;
     }
-    let mut out = MemSink::new(alloc, 40_000, 7, Vec::new(alloc))?;
     let answer = run(
         alloc,
         &list,
@@ -292,21 +303,21 @@ fn a_source_that_fails_is_named(rt: HostRuntime) -> Result<(), Fail> {
     Ok(())
 }
 
-fn solved(alloc: Global, formula: &str, more: &[&str]) -> Result<Seen, AllocError> {
+fn solved(alloc: Global, formula: &[u8], more: &[&str]) -> Result<Seen, AllocError> {
     let mut words = Vec::new(alloc);
     words.extend_from_slice(&["solve", "F", "P"])?;
     words.extend_from_slice(more)?;
     run_on(
         alloc,
         &words,
-        source(alloc, formula, false)?,
+        source_of(alloc, formula)?,
         source(alloc, "", true)?,
     )
 }
 
 /// Whether the values behind the first line of a text satisfy a formula.
-fn is_model(alloc: Global, formula: &str, text: &[u8]) -> Result<bool, AllocError> {
-    let Ok(f) = read_formula(alloc, formula.as_bytes()) else {
+fn is_model(alloc: Global, formula: &[u8], text: &[u8]) -> Result<bool, AllocError> {
+    let Ok(f) = read_formula(alloc, formula) else {
         return Ok(false);
     };
     let mut m = Assignment::new(alloc, f.vars(), false)?;
@@ -329,16 +340,19 @@ fn is_model(alloc: Global, formula: &str, text: &[u8]) -> Result<bool, AllocErro
     Ok(values == f.vars() && m.vars() == f.vars() && satisfies(&f, &m))
 }
 
-/// Whether the proof that was written is accepted.
-fn is_proved(alloc: Global, formula: &str, proof: &[u8]) -> Result<bool, AllocError> {
-    let written = MemSource::new(Vec::from_slice(alloc, proof)?, 5, Vec::new(alloc));
-    let seen = run_on(
+/// What `check` says of a proof that was written.
+fn rechecked(alloc: Global, formula: &[u8], proof: &[u8]) -> Result<Seen, AllocError> {
+    run_on(
         alloc,
         &["check", "F", "P"],
-        source(alloc, formula, false)?,
-        written,
-    )?;
-    Ok(seen.answer == Answer::Verified)
+        source_of(alloc, formula)?,
+        source_of(alloc, proof)?,
+    )
+}
+
+/// Whether the proof that was written is accepted.
+fn is_proved(alloc: Global, formula: &[u8], proof: &[u8]) -> Result<bool, AllocError> {
+    Ok(rechecked(alloc, formula, proof)?.answer == Answer::Verified)
 }
 
 #[test]
@@ -392,15 +406,15 @@ fn solve_finds_models_and_proofs(rt: HostRuntime) -> Result<(), Fail> {
         ),
     ];
     for (formula, want) in cases {
-        let seen = solved(rt.alloc(), formula, &[])?;
+        let seen = solved(rt.alloc(), formula.as_bytes(), &[])?;
         assert_eq!(rt; seen.answer, want, "{formula}");
         assert_eq!(rt;
-            is_model(rt.alloc(), formula, &seen.text)?,
+            is_model(rt.alloc(), formula.as_bytes(), &seen.text)?,
             want == Answer::Model,
             "{formula}"
         );
         assert_eq!(rt;
-            is_proved(rt.alloc(), formula, &seen.proof)?,
+            is_proved(rt.alloc(), formula.as_bytes(), &seen.proof)?,
             want == Answer::Refuted,
             "{formula}"
         );
@@ -410,22 +424,22 @@ fn solve_finds_models_and_proofs(rt: HostRuntime) -> Result<(), Fail> {
 
 #[test]
 fn solve_writes_its_texts(rt: HostRuntime) -> Result<(), Fail> {
-    let empty = solved(rt.alloc(), "p cnf 0 0\n", &[])?;
+    let empty = solved(rt.alloc(), b"p cnf 0 0\n", &[])?;
     assert_eq!(rt; empty.text.as_slice(), b"s SATISFIABLE\nv 0\n".as_slice());
     assert_eq!(rt; empty.proof.as_slice(), b"p kpf 0 0\n".as_slice());
     assert_eq!(rt; empty.answer.status(), 10);
     let refuted = solved(
         rt.alloc(),
-        UNIT_FILE,
+        UNIT_FILE.as_bytes(),
         &["--forget", "0", "--conflicts", "7"],
     )?;
     assert_eq!(rt; refuted.text.as_slice(), b"s UNSATISFIABLE\n".as_slice());
     assert_eq!(rt; refuted.answer.status(), 20);
-    let unknown = solved(rt.alloc(), PAIRS, &["--conflicts", "0"])?;
+    let unknown = solved(rt.alloc(), EACH_PAIR, &["--conflicts", "0"])?;
     assert_eq!(rt; unknown.text.as_slice(), b"s UNKNOWN\n".as_slice());
     assert_eq!(rt; unknown.answer.status(), 0);
-    assert_eq!(rt; unknown.proof.as_slice(), b"p kpf 3 6\n".as_slice());
-    let refused = solved(rt.alloc(), "p cnf 1 1\n2 0\n", &[])?;
+    assert_eq!(rt; unknown.proof.as_slice(), b"p kpf 2 4\n".as_slice());
+    let refused = solved(rt.alloc(), b"p cnf 1 1\n2 0\n", &[])?;
     assert_eq!(rt;
         refused.text.as_slice(),
         b"c refused line 2 cause 6\n".as_slice()
@@ -438,10 +452,11 @@ fn solve_writes_its_texts(rt: HostRuntime) -> Result<(), Fail> {
 fn a_sink_of_the_proof_that_fails_is_named(rt: HostRuntime) -> Result<(), Fail> {
     let mut failing = Vec::new(rt.alloc());
     failing.push(2)?;
+    let out = MemSink::new(rt.alloc(), 100, 7, Vec::new(rt.alloc()))?;
     let sink = MemSink::new(rt.alloc(), 100, 4, failing)?;
     let formula = source(rt.alloc(), UNIT_FILE, false)?;
     let unused = source(rt.alloc(), "", true)?;
-    let seen = run_into(rt.alloc(), &["solve", "F", "P"], formula, unused, sink)?;
+    let seen = run_into(rt.alloc(), &["solve", "F", "P"], formula, unused, out, sink)?;
     assert_eq!(rt;
         seen.answer,
         Answer::WriteFault {
