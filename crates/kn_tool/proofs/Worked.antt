@@ -1,9 +1,9 @@
 -- What was found of a generated formula, and the summary of it, have a row of `work`.
-use Rattle.std.proofs.Common.{◌≡◌, ◌++◌, ◌≤◌, ◌<◌, ◌^◌, List, ℕ, [], map, length, Option, Some, None, append-nil, refl, sym, ap, ◌∙◌, subst, arith}
+use Rattle.std.proofs.Common.{◌≡◌, ◌++◌, ◌≤◌, ◌<◌, ◌^◌, List, ℕ, map, length, Option, Some, None, refl, sym, ap, ◌∙◌, subst, arith}
 use Rattle.kn_logic.specs.Formulas.{Problem, IsUnsatisfiable}
 use Rattle.kn_gen.specs.Blocks.{generated}
 use Rattle.kn_extract.specs.Extractions.{IsExtraction}
-use Rattle.kn_extract.specs.Kept.{Extracted, IsExtracted, found_of}
+use Rattle.kn_extract.specs.Kept.{Extracted, IsExtracted, Took, found_of}
 use Rattle.kn_search.specs.declared.outcome.Outcome.{Outcome}
 use Rattle.kn_search.specs.declared.outcome.Outcome.TheVariants as outcome
 use Rattle.kn_tool.specs.declared.answer.Answer.{Answer}
@@ -34,14 +34,18 @@ found_no_model n budget forget f p o is none (bytes, writes, said) = no_model bu
 length-map : {A B : Type 0} (f : A → B) (xs : List A) → length (map f xs) ≡ length xs
 length-map f xs = grind
 
-pub summarised : (n : ℕ) (e : Extracted) (answer : Answer) (text : List ℕ) → IsExtracted e → e.original ≡ generated n → text ≡ numbers_text n e.original (length e.taken) ++ ending_text answer → Summarises n answer text
-summarised n e answer text is original told = record {
+pub summarised : (n : ℕ) (e : Extracted) (f : Problem) (taken : List Took) (klauses : ℕ) (answer : Answer) (text : List ℕ) → IsExtracted e → e.original ≡ generated n → f ≡ e.original → taken ≡ e.taken → klauses ≡ length taken
+    → text ≡ numbers_text n f klauses ++ ending_text answer → Summarises n answer text
+summarised n e f taken klauses answer text is original same groups count told = record {
   found = map found_of e.taken;
   remains = e.formula;
-  extraction = subst (λ f. IsExtraction f (map found_of e.taken) e.formula) original is.extraction;
-  text_is = told ∙ ap (λ (f : Problem). numbers_text n f (length e.taken) ++ ending_text answer) original
-      ∙ ap (λ (k : ℕ). numbers_text n (generated n) k ++ ending_text answer) (sym (length-map found_of e.taken));
+  extraction = subst (λ (g : Problem). IsExtraction g (map found_of e.taken) e.formula) original is.extraction;
+  text_is = told ∙ ap (λ (g : Problem). numbers_text n g klauses ++ ending_text answer) (same ∙ original)
+      ∙ ap (λ (k : ℕ). numbers_text n (generated n) k ++ ending_text answer) (count ∙ ap length groups ∙ sym (length-map found_of e.taken));
 }
+
+pub short_summary : (n : ℕ) (answer : Answer) (r : Reply) → IsShortMemory r → IsSummary n answer r
+short_summary n answer r is = subst (IsSummary n answer) (sym is) refl
 
 -- an answer without a text
 pub silent_row : (n : ℕ) (f : Problem) (p : Change Sink) (answer : Answer) → f ≡ generated n → SolvedRow work_budget work_forget p f answer None → WorkRow n p answer None

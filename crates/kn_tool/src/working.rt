@@ -1,4 +1,4 @@
-ghost use Rattle.std.specs.Prelude.{◌≡◌, ◌≤◌, ◌++◌, length, IfOk, OnOk};
+ghost use Rattle.std.specs.Prelude.{◌≡◌, ◌≤◌, ◌++◌, IfOk, OnOk};
 ghost use Rattle.kn_gen.specs.Blocks.{generated};
 ghost use Rattle.kn_tool.specs.Words.{most_blocks};
 ghost use Rattle.kn_tool.specs.Changes.{sink_change};
@@ -13,7 +13,7 @@ use crate::solving::solve_extraction;
 use kn_bytes::Sink;
 use kn_extract::{Extraction, extract};
 use kn_gen::{blocks_are_counted, blocks_have_no_model, make_formula};
-use kn_logic::NoMemory;
+use kn_logic::{Formula, NoMemory};
 use kn_search::{Options, Outcome};
 use kn_text::push_number;
 use std::alloc::Global;
@@ -82,26 +82,28 @@ fn summary_reply(alloc: Global, blocks: u32, e: &Extraction, answer: Answer) -> 
     requires { e.now.original ≡ generated blocks }
     ensures { IsSummary blocks answer result }
 {
-    match summary(alloc, blocks, e, &answer) {
+    let klauses = e.taken().len() as u64;
+    match summary(alloc, blocks, e.original(), klauses, &answer) {
         Ok(text) => Reply::Text { answer, text },
         Err(_) => short_memory(),
     }
 }
 
-/// The numbers of a formula and of its extraction, and the answer.
+/// The numbers of a formula and of the klauses that are extracted, and the answer.
 fn summary(
     alloc: Global,
     blocks: u32,
-    e: &Extraction,
+    f: &Formula,
+    klauses: u64,
     answer: &Answer,
 ) -> Result<Vec<u8>, NoMemory>
-    ensures { IfOk result (λ text. text.items ≡ numbers_text blocks e.now.original (length e.now.taken) ++ ending_text answer.now) }
+    ensures { IfOk result (λ text. text.items ≡ numbers_text blocks f.now klauses ++ ending_text answer.now) }
 {
     let mut text = Vec::new(alloc);
     push_count(&mut text, b"blocks", u64::from(blocks))?;
-    push_count(&mut text, b"variables", e.original().vars())?;
-    push_count(&mut text, b"clauses", e.original().len() as u64)?;
-    push_count(&mut text, b"klauses", e.taken().len() as u64)?;
+    push_count(&mut text, b"variables", f.vars())?;
+    push_count(&mut text, b"clauses", f.len() as u64)?;
+    push_count(&mut text, b"klauses", klauses)?;
     push_ending(alloc, &mut text, answer)?;
     Ok(text)
 }

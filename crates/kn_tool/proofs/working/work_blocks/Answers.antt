@@ -1,3 +1,4 @@
+use Rattle.std.proofs.Common.{refl}
 use Rattle.kn_tool.proofs.Worked.{before_proof}
 use Rattle.kn_tool.proofs.working.work_blocks.Goals as goal
 
