@@ -161,7 +161,7 @@ no_command words (Some command) asks none = absurd (none (asked_by command) asks
 blocks_in_range : (words : List (List ℕ)) (n : ℕ) → AsksWork words n → AreInRange (Some (work n))
 blocks_in_range [] n is = absurd is
 blocks_in_range (a ∷ []) n is = absurd is
-blocks_in_range (a ∷ b ∷ []) n is = is.2
+blocks_in_range (a ∷ b ∷ []) n is = (is.1.1, is.1.2)
 blocks_in_range (a ∷ b ∷ c ∷ more) n is = absurd is
 
 pub in_range : (words : List (List ℕ)) (request : Option Asked) → AsksFor words request → AreInRange request

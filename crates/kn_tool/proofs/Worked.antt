@@ -1,5 +1,5 @@
 -- What was found of a generated formula, and the summary of it, have a row of `work`.
-use Rattle.std.proofs.Common.{◌≡◌, ◌++◌, ◌≤◌, ◌<◌, ◌^◌, List, ℕ, map, length, Option, Some, None, refl, sym, ap, ◌∙◌, subst, arith}
+use Rattle.std.proofs.Common.{◌≡◌, ◌++◌, ◌≤◌, ◌<◌, ◌^◌, List, [], ◌∷◌, ℕ, suc, map, length, Option, Some, None, refl, sym, ap, ◌∙◌, subst, arith}
 use Rattle.kn_logic.specs.Formulas.{Problem, IsUnsatisfiable}
 use Rattle.kn_gen.specs.Blocks.{generated}
 use Rattle.kn_extract.specs.Extractions.{IsExtraction}
@@ -32,7 +32,8 @@ found_no_model n budget forget f p o is none (bytes, writes, said) = no_model bu
 
 -- the klauses that the extraction took are as many as the groups
 length-map : {A B : Type 0} (f : A → B) (xs : List A) → length (map f xs) ≡ length xs
-length-map f xs = grind
+length-map f [] = refl
+length-map f (x ∷ xs) = ap suc (length-map f xs)
 
 pub summarised : (n : ℕ) (e : Extracted) (f : Problem) (taken : List Took) (klauses : ℕ) (answer : Answer) (text : List ℕ) → IsExtracted e → e.original ≡ generated n → f ≡ e.original → taken ≡ e.taken → klauses ≡ length taken
     → text ≡ numbers_text n f klauses ++ ending_text answer → Summarises n answer text

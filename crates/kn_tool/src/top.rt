@@ -67,7 +67,7 @@ fn carry_out<F: Source, Q: Source, P: Sink>(
     proof_in: &mut Q,
     proof_out: &mut P,
 ) -> Reply
-    requires { AreInRange (option_map asked_by command.entry) }
+    requires { AreInRange (option_map asked_by command) }
     ensures reply { IsReply (RowOf (option_map asked_by command.entry) (files_change
         (source_change F.Source formula.old formula.new)
         (source_change Q.Source proof_in.old proof_in.new)
