@@ -34,7 +34,9 @@ pub enum Command<'a> {
         proof: &'a [u8],
     },
     /// Solve the generated formula of so many blocks, from 1 to 200.
-    Work { blocks: u32 },
+    Work {
+        blocks: u32,
+    },
 }
 
 /// The options of `solve`.
