@@ -7,7 +7,7 @@ use Rattle.kn_format.specs.Faults.{IsFirstFault, refusal}
 use Rattle.kn_rules.specs.Proofs.{IsProof, IsFirstWrong, fault}
 use Rattle.kn_tool.specs.declared.answer.Answer.{Answer}
 use Rattle.kn_tool.specs.declared.answer.Answer.TheVariants.{Refused, NoMemory}
-use Rattle.kn_tool.specs.Words.{Asked, check, solve, extract, convert, trim, HasShape, AsksFor}
+use Rattle.kn_tool.specs.Words.{Asked, check, solve, extract, convert, trim, work, HasShape, AsksFor}
 use Rattle.kn_tool.proofs.Shapes.{one_command}
 use Rattle.kn_tool.specs.Changes.{Change, Source, Sink, GivesAll, GivesTooMany, NoFault, IsSound, IsQuiet, most_bytes}
 use Rattle.kn_tool.specs.Files as files
@@ -22,6 +22,8 @@ use Rattle.kn_tool.specs.Conversions as conversions
 use Rattle.kn_tool.specs.Conversions.{ConvertRow, ConvertedRow, Converts}
 use Rattle.kn_tool.specs.Trims as trims
 use Rattle.kn_tool.specs.Trims.{TrimRow, Shortened}
+use Rattle.kn_tool.specs.Works as works
+use Rattle.kn_tool.specs.Works.{WorkRow, Finishes}
 use Rattle.kn_tool.specs.Outcomes as outcomes
 use Rattle.kn_tool.specs.Outcomes.{Files, RowOf, Told, CompleteOf}
 
@@ -120,6 +122,12 @@ trim_complete formula proof text more answer told sound also (files.accepted f a
 trim_complete formula proof text more answer told sound also (files.no_formula none same) =
     no_formula (Shortened text more) formula text answer told sound (λ line why known. known) tt none
 
+work_complete : (blocks : ℕ) (proof : Change Sink) (answer : Answer) (told : Option (List ℕ)) → IsQuiet proof → WorkRow blocks proof answer told → Finishes answer
+work_complete blocks proof answer told quiet (works.refuted bytes text writes is_proof none sums) = tt
+work_complete blocks proof answer told quiet (works.unknown bytes text writes spent small sums) = refl
+work_complete blocks proof answer told quiet (works.no_memory front) = tt
+work_complete blocks proof answer told quiet (works.fails rose front) = no_rise _ _ quiet rose
+
 -- whatever was told
 row_complete : (asked : Asked) (all : Files) (out : Change Sink) (answer : Answer) (told : Option (List ℕ)) → RowOf (Some asked) all answer told → CompleteOf asked all out answer
 row_complete (check f p) all out answer told row = λ text more sound also quiet. check_complete all.formula all.proof_in text more answer told sound also row
@@ -127,6 +135,7 @@ row_complete (solve f p conflicts forget) all out answer told row = λ text soun
 row_complete (extract f) all out answer told row = λ text sound quiet. extract_complete all.formula text answer told sound row
 row_complete (convert f) all out answer told row = λ text sound quiet. convert_complete all.formula text answer told sound row
 row_complete (trim f p) all out answer told row = λ text more sound also quiet. trim_complete all.formula all.proof_in text more answer told sound also row
+row_complete (work n) all out answer told row = λ proof_quiet quiet. work_complete n all.proof_out answer told proof_quiet row
 
 -- writing did not fail
 never_cut : (asked : Asked) (all : Files) (out : Change Sink) (answer : Answer) → Rose out.old.faults out.new.faults → CompleteOf asked all out answer
@@ -135,6 +144,7 @@ never_cut (solve f p conflicts forget) all out answer rose = λ text sound proof
 never_cut (extract f) all out answer rose = λ text sound quiet. absurd (no_rise _ _ quiet rose)
 never_cut (convert f) all out answer rose = λ text sound quiet. absurd (no_rise _ _ quiet rose)
 never_cut (trim f p) all out answer rose = λ text more sound also quiet. absurd (no_rise _ _ quiet rose)
+never_cut (work n) all out answer rose = λ proof_quiet quiet. absurd (no_rise _ _ quiet rose)
 
 of_command : (asked : Asked) (all : Files) (out : Change Sink) (answer : Answer) → Told (RowOf (Some asked) all) out answer → CompleteOf asked all out answer
 of_command asked all out answer (outcomes.whole text row got) = row_complete asked all out answer (Some text) row

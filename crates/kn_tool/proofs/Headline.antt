@@ -6,7 +6,7 @@ use Rattle.kn_tool.specs.declared.answer.Which.{Which}
 use Rattle.kn_tool.specs.declared.answer.Which.TheVariants.{Out}
 use Rattle.kn_tool.specs.declared.answer.Answer.{Answer}
 use Rattle.kn_tool.specs.declared.answer.Answer.TheVariants.{Refused, TooLong, ReadFault, WriteFault, NoMemory}
-use Rattle.kn_tool.specs.Words.{Asked, check, solve, extract, convert, trim, HasShape, AsksFor}
+use Rattle.kn_tool.specs.Words.{Asked, check, solve, extract, convert, trim, work, HasShape, AsksFor}
 use Rattle.kn_tool.proofs.Shapes.{one_command}
 use Rattle.kn_tool.specs.Changes.{Change, Source, Sink}
 use Rattle.kn_tool.specs.Files as files
@@ -21,6 +21,8 @@ use Rattle.kn_tool.specs.Conversions as conversions
 use Rattle.kn_tool.specs.Conversions.{ConvertRow, ConvertedRow, ConvertHeadline}
 use Rattle.kn_tool.specs.Trims as trims
 use Rattle.kn_tool.specs.Trims.{TrimRow, TrimHeadline}
+use Rattle.kn_tool.specs.Works as works
+use Rattle.kn_tool.specs.Works.{WorkRow, WorkHeadline}
 use Rattle.kn_tool.specs.Outcomes as outcomes
 use Rattle.kn_tool.specs.Outcomes.{Files, RowOf, Told, HeadlineOf}
 
@@ -75,12 +77,19 @@ trim_headline formula proof out answer told got (files.accepted f accepts (trims
 trim_headline formula proof out answer told got (files.accepted f accepts trims.no_memory) = tt
 trim_headline formula proof out answer told got (files.no_formula none same) = no_formula (TrimHeadline formula proof out) formula answer told (λ w. tt) (λ w. tt) tt (λ line why. tt) none
 
+work_headline : (blocks : ℕ) (proof out : Change Sink) (answer : Answer) (told : Option (List ℕ)) → GotText out told → WorkRow blocks proof answer told → WorkHeadline blocks proof out answer
+work_headline blocks proof out answer told got (works.refuted bytes text writes is_proof none sums) = ((bytes, writes, is_proof, none), (text, sums, got))
+work_headline blocks proof out answer told got (works.unknown bytes text writes spent small sums) = (refl, (bytes, writes, spent), (text, sums, got))
+work_headline blocks proof out answer told got (works.no_memory front) = tt
+work_headline blocks proof out answer told got (works.fails rose front) = tt
+
 row_headline : (asked : Asked) (all : Files) (out : Change Sink) (answer : Answer) (told : Option (List ℕ)) → GotText out told → RowOf (Some asked) all answer told → HeadlineOf asked all out answer
 row_headline (check f p) all out answer told got row = check_headline all.formula all.proof_in answer told row
 row_headline (solve f p conflicts forget) all out answer told got row = solve_headline conflicts forget all.formula all.proof_out out answer told got row
 row_headline (extract f) all out answer told got row = extract_headline all.formula out answer told got row
 row_headline (convert f) all out answer told got row = convert_headline all.formula out answer told got row
 row_headline (trim f p) all out answer told got row = trim_headline all.formula all.proof_in out answer told got row
+row_headline (work n) all out answer told got row = work_headline n all.proof_out out answer told got row
 
 -- an answer that could not be written promises nothing
 cut_headline : (asked : Asked) (all : Files) (out : Change Sink) → HeadlineOf asked all out (WriteFault Out)
@@ -89,6 +98,7 @@ cut_headline (solve f p conflicts forget) all out = tt
 cut_headline (extract f) all out = tt
 cut_headline (convert f) all out = tt
 cut_headline (trim f p) all out = tt
+cut_headline (work n) all out = tt
 
 of_command : (asked : Asked) (all : Files) (out : Change Sink) (answer : Answer) → Told (RowOf (Some asked) all) out answer → HeadlineOf asked all out answer
 of_command asked all out answer (outcomes.whole text row got) = row_headline asked all out answer (Some text) got row

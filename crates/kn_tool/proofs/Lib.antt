@@ -6,6 +6,7 @@ pub mod Readings
 pub mod Reading
 pub mod Solutions
 pub mod Solved
+pub mod Worked
 pub mod Limits
 pub mod Complete
 pub mod Headline

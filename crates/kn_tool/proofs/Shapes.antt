@@ -3,7 +3,8 @@ use Rattle.std.proofs.Common.{◌≡◌, ℕ, List, [], ◌∷◌, Option, Some,
 use Rattle.std.specs.Prelude.{if◌then◌else◌, option_map, codes}
 use Rattle.std.specs.Str.{bytes_eq}
 use Rattle.kn_tool.specs.declared.command.Command.{Command}
-use Rattle.kn_tool.specs.Words.{Asked, check, solve, extract, convert, trim, AsksCheck, AsksSolve, AsksExtract, AsksConvert, AsksTrim, HasShape, HasNoShape, AsksFor, Named, names_of, asked_by, SpellsOptions, SpellsOption, SpellsBoth, SpellsConflicts, SpellsForget, count_of, default_conflicts, default_forget}
+use Rattle.kn_tool.specs.Words.{Asked, check, solve, extract, convert, trim, work, AsksCheck, AsksSolve, AsksExtract, AsksConvert, AsksTrim, AsksWork, HasShape, HasNoShape, AsksFor, Named, names_of, asked_by, SpellsOptions, SpellsOption, SpellsBoth, SpellsConflicts, SpellsForget, count_of, default_conflicts, default_forget}
+use Rattle.kn_tool.specs.WorkReplies.{AreInRange}
 
 -- a budget, and how many clauses are kept
 record Limit : Type 0 where
@@ -70,6 +71,10 @@ abbrev trim_in : List (List ℕ) → Option Asked
 trim_in (f ∷ p ∷ []) = Some (trim f p)
 trim_in words = None
 
+abbrev work_in : List (List ℕ) → Option Asked
+work_in (word ∷ []) = option_map work (count_of word)
+work_in words = None
+
 abbrev behind : List ℕ → List (List ℕ) → Option Asked
 behind name words =
     if bytes_eq name (codes "check") then check_in words
@@ -77,6 +82,7 @@ behind name words =
     else if bytes_eq name (codes "extract") then extract_in words
     else if bytes_eq name (codes "convert") then convert_in words
     else if bytes_eq name (codes "trim") then trim_in words
+    else if bytes_eq name (codes "work") then work_in words
     else None
 
 abbrev asked_in : List (List ℕ) → Option Asked
@@ -117,12 +123,19 @@ trim_found (a ∷ b ∷ []) f p is = absurd is
 trim_found (a ∷ b ∷ c ∷ []) f p is = rw (is.0, is.1, is.2) refl
 trim_found (a ∷ b ∷ c ∷ d ∷ more) f p is = absurd is
 
+work_found : (words : List (List ℕ)) (n : ℕ) → AsksWork words n → asked_in words ≡ Some (work n)
+work_found [] n is = absurd is
+work_found (a ∷ []) n is = absurd is
+work_found (a ∷ b ∷ []) n is = rw (is.0, is.1.0) refl
+work_found (a ∷ b ∷ c ∷ more) n is = absurd is
+
 found : (words : List (List ℕ)) (asked : Asked) → HasShape words asked → asked_in words ≡ Some asked
 found words (check f p) is = check_found words f p is
 found words (solve f p conflicts forget) is = solve_found words f p conflicts forget is
 found words (extract f) is = extract_found words f is
 found words (convert f) is = convert_found words f is
 found words (trim f p) is = trim_found words f p is
+found words (work n) is = work_found words n is
 
 same_some : (a b : Asked) → ◌≡◌ {A = Option Asked} (Some a) (Some b) → a ≡ b
 same_some a b is = cc
@@ -143,3 +156,19 @@ same_name name words r s one other none = ap (λ a. name (names_of a)) (one_requ
 pub no_command : (words : List (List ℕ)) (c : Option Command) → AsksFor words (option_map asked_by c) → HasNoShape words → c ≡ None
 no_command words None asks none = refl
 no_command words (Some command) asks none = absurd (none (asked_by command) asks)
+
+-- the numbers of words that ask for something are within their limits
+blocks_in_range : (words : List (List ℕ)) (n : ℕ) → AsksWork words n → AreInRange (Some (work n))
+blocks_in_range [] n is = absurd is
+blocks_in_range (a ∷ []) n is = absurd is
+blocks_in_range (a ∷ b ∷ []) n is = (is.1.1, is.1.2)
+blocks_in_range (a ∷ b ∷ c ∷ more) n is = absurd is
+
+pub in_range : (words : List (List ℕ)) (request : Option Asked) → AsksFor words request → AreInRange request
+in_range words None is = tt
+in_range words (Some (check f p)) is = tt
+in_range words (Some (solve f p conflicts forget)) is = tt
+in_range words (Some (extract f)) is = tt
+in_range words (Some (convert f)) is = tt
+in_range words (Some (trim f p)) is = tt
+in_range words (Some (work n)) is = blocks_in_range words n is

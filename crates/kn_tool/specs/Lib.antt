@@ -8,5 +8,7 @@ pub mod Solves
 pub mod Extracts
 pub mod Conversions
 pub mod Trims
+pub mod Works
 pub mod Outcomes
 pub mod Replies
+pub mod WorkReplies

@@ -4,7 +4,7 @@ use Rattle.kn_bytes.specs.Outside.{Rose, Got, GotPrefix}
 use Rattle.kn_tool.specs.declared.answer.Which.TheVariants.{Out}
 use Rattle.kn_tool.specs.declared.answer.Answer.{Answer}
 use Rattle.kn_tool.specs.declared.answer.Answer.TheVariants.{Usage, WriteFault}
-use Rattle.kn_tool.specs.Words.{Asked, check, solve, extract, convert, trim, AsksFor}
+use Rattle.kn_tool.specs.Words.{Asked, check, solve, extract, convert, trim, work, AsksFor}
 use Rattle.kn_tool.specs.Answers.{usage_text}
 use Rattle.kn_tool.specs.Changes.{Change, Source, Sink, IsSound, IsQuiet}
 use Rattle.kn_tool.specs.Files.{Rows}
@@ -13,6 +13,7 @@ use Rattle.kn_tool.specs.Solves.{SolveRow, SolveHeadline, Concludes}
 use Rattle.kn_tool.specs.Extracts.{ExtractRow, ExtractHeadline, Extracted}
 use Rattle.kn_tool.specs.Conversions.{ConvertRow, ConvertHeadline, Converts}
 use Rattle.kn_tool.specs.Trims.{TrimRow, TrimHeadline, Shortened}
+use Rattle.kn_tool.specs.Works.{WorkRow, WorkHeadline, Finishes}
 
 -- The objects of a run but the sink of the answers. Each command speaks of those that it uses.
 pub record Files : Type 0 where
@@ -31,6 +32,7 @@ RowOf (Some (solve formula proof conflicts forget)) files answer told = SolveRow
 RowOf (Some (extract formula)) files answer told = ExtractRow files.formula answer told
 RowOf (Some (convert formula)) files answer told = ConvertRow files.formula answer told
 RowOf (Some (trim formula proof)) files answer told = TrimRow files.formula files.proof_in answer told
+RowOf (Some (work blocks)) files answer told = WorkRow blocks files.proof_out answer told
 
 -- What stands on the sink of the answers: the text of the answer; nothing, where it has none; where writing
 -- failed, a prefix of the text of an answer that would have been right.
@@ -51,6 +53,7 @@ HeadlineOf (solve formula proof conflicts forget) files out answer = SolveHeadli
 HeadlineOf (extract formula) files out answer = ExtractHeadline files.formula out answer
 HeadlineOf (convert formula) files out answer = ConvertHeadline files.formula out answer
 HeadlineOf (trim formula proof) files out answer = TrimHeadline files.formula files.proof_in out answer
+HeadlineOf (work blocks) files out answer = WorkHeadline blocks files.proof_out out answer
 
 -- What is answered where nothing is in the way: no call on an object that the command uses fails, and its sources tell
 -- what they have.
@@ -65,6 +68,7 @@ CompleteOf (convert formula) files out answer =
     (text : List ℕ) → IsSound files.formula text → IsQuiet out → Converts text answer
 CompleteOf (trim formula proof) files out answer =
     (text : List ℕ) (more : List ℕ) → IsSound files.formula text → IsSound files.proof_in more → IsQuiet out → Shortened text more answer
+CompleteOf (work blocks) files out answer = IsQuiet files.proof_out → IsQuiet out → Finishes answer
 
 -- the answers to words that ask for no command
 abbrev pub AnswersUsage : Answer → Type 0

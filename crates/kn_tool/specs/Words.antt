@@ -1,5 +1,5 @@
 -- The words of a command line and the commands that they ask for.
-use Rattle.std.specs.Prelude.{ℕ, ◌≡◌, ◌⊎◌, nat_lt, if◌then◌else◌, List, [], ◌∷◌, length, map, codes, Option, None, Some, option_map}
+use Rattle.std.specs.Prelude.{ℕ, ◌≡◌, ◌≤◌, ◌⊎◌, nat_lt, if◌then◌else◌, List, [], ◌∷◌, length, map, codes, Option, None, Some, option_map}
 use Rattle.std.specs.declared.vec.Vec.{Vec}
 use Rattle.std.specs.declared.alloc.Global.{Global}
 use Rattle.kn_text.specs.Numbers.{number_of}
@@ -7,13 +7,14 @@ use Rattle.kn_tool.specs.declared.command.Command.{Command}
 use Rattle.kn_tool.specs.declared.command.Command.TheVariants as command
 use Rattle.kn_tool.specs.declared.command.Names.{Names}
 
--- a command, with the names of its files
+-- a command, with the names of its files and its numbers
 pub data Asked : Type 0 where
   check : List ℕ → List ℕ → Asked
   solve : List ℕ → List ℕ → ℕ → ℕ → Asked
   extract : List ℕ → Asked
   convert : List ℕ → Asked
   trim : List ℕ → List ℕ → Asked
+  work : ℕ → Asked
 
 -- a word that may name a file
 abbrev pub IsName : List ℕ → Type 0
@@ -83,12 +84,25 @@ AsksTrim (name ∷ f ∷ p ∷ []) formula proof =
     (name ≡ codes "trim") × (f ≡ formula) × (p ≡ proof) × IsName formula × IsName proof
 AsksTrim words formula proof = ⊥
 
+-- the most blocks of a generated formula
+abbrev pub most_blocks : ℕ
+most_blocks = 200
+
+abbrev pub SpellsBlocks : List ℕ → ℕ → Type 0
+SpellsBlocks word blocks = SpellsCount word blocks × (1 ≤ blocks) × (blocks ≤ most_blocks)
+
+-- `work N`
+abbrev pub AsksWork : List (List ℕ) → ℕ → Type 0
+AsksWork (name ∷ word ∷ []) blocks = (name ≡ codes "work") × SpellsBlocks word blocks
+AsksWork words blocks = ⊥
+
 abbrev pub HasShape : List (List ℕ) → Asked → Type 0
 HasShape words (check formula proof) = AsksCheck words formula proof
 HasShape words (solve formula proof conflicts forget) = AsksSolve words formula proof conflicts forget
 HasShape words (extract formula) = AsksExtract words formula
 HasShape words (convert formula) = AsksConvert words formula
 HasShape words (trim formula proof) = AsksTrim words formula proof
+HasShape words (work blocks) = AsksWork words blocks
 
 -- The words ask for no command.
 abbrev pub HasNoShape : List (List ℕ) → Type 0
@@ -109,6 +123,7 @@ asked_by (command.Solve formula proof conflicts forget) = solve formula.now proo
 asked_by (command.Extract formula) = extract formula.now
 asked_by (command.Convert formula) = convert formula.now
 asked_by (command.Trim formula proof) = trim formula.now proof.now
+asked_by (command.Work blocks) = work blocks
 
 -- the names of the files that a command opens; none where it does not use such a file
 pub record Named : Type 0 where
@@ -116,12 +131,17 @@ pub record Named : Type 0 where
   pub proof_in : Option (List ℕ)
   pub proof_out : Option (List ℕ)
 
+-- the file into which `work` writes its proof
+abbrev pub work_proof : List ℕ
+work_proof = codes "work.kpf"
+
 abbrev pub named_by : Asked → Named
 named_by (check formula proof) = record { formula = Some formula; proof_in = Some proof; proof_out = None }
 named_by (solve formula proof conflicts forget) = record { formula = Some formula; proof_in = None; proof_out = Some proof }
 named_by (extract formula) = record { formula = Some formula; proof_in = None; proof_out = None }
 named_by (convert formula) = record { formula = Some formula; proof_in = None; proof_out = None }
 named_by (trim formula proof) = record { formula = Some formula; proof_in = Some proof; proof_out = None }
+named_by (work blocks) = record { formula = None; proof_in = None; proof_out = Some work_proof }
 
 abbrev pub no_names : Named
 no_names = record { formula = None; proof_in = None; proof_out = None }

@@ -1,6 +1,7 @@
 ghost use Rattle.std.specs.Prelude.{◌≡◌, ◌↔◌, ℕ, List, IfSome, IfNone, IsTrue, codes, option_map};
-ghost use Rattle.kn_tool.specs.Words.{AsksCheck, AsksSolve, AsksExtract, AsksConvert, AsksTrim, HasShape, AsksFor, SpellsOption, SpellsBoth, SpellsOptions, count_of, texts, asked_by};
+ghost use Rattle.kn_tool.specs.Words.{AsksCheck, AsksSolve, AsksExtract, AsksConvert, AsksTrim, AsksWork, HasShape, AsksFor, SpellsBlocks, SpellsOption, SpellsBoth, SpellsOptions, count_of, texts, asked_by};
 
+use kn_gen::MAX_BLOCKS;
 use kn_text::number;
 
 /// What the words of a command line ask for.
@@ -32,6 +33,10 @@ pub enum Command<'a> {
         formula: &'a [u8],
         proof: &'a [u8],
     },
+    /// Solve the generated formula of so many blocks, from 1 to 200.
+    Work {
+        blocks: u32,
+    },
 }
 
 /// The options of `solve`.
@@ -62,7 +67,10 @@ pub fn parse<'a>(words: &'a [Vec<u8>]) -> Option<Command<'a>>
     if let Some(command) = convert_command(words) {
         return Some(command);
     }
-    trim_command(words)
+    if let Some(command) = trim_command(words) {
+        return Some(command);
+    }
+    work_command(words)
 }
 
 fn check_command<'a>(words: &'a [Vec<u8>]) -> Option<Command<'a>>
@@ -138,6 +146,18 @@ fn trim_command<'a>(words: &'a [Vec<u8>]) -> Option<Command<'a>>
     }
 }
 
+fn work_command<'a>(words: &'a [Vec<u8>]) -> Option<Command<'a>>
+    ensures some { IfSome result (λ c. HasShape (texts words.now) (asked_by c)) }
+    ensures none { IfNone result ((blocks : ℕ) → AsksWork (texts words.now) blocks → ⊥) }
+{
+    match words {
+        [name, word] if is_work(name) => Some(Command::Work {
+            blocks: blocks_in(word)?,
+        }),
+        _ => None,
+    }
+}
+
 fn is_check(word: &[u8]) -> bool
     ensures { IsTrue result ↔ (word.now ≡ codes "check") }
 {
@@ -166,6 +186,12 @@ fn is_trim(word: &[u8]) -> bool
     ensures { IsTrue result ↔ (word.now ≡ codes "trim") }
 {
     word == b"trim".as_slice()
+}
+
+fn is_work(word: &[u8]) -> bool
+    ensures { IsTrue result ↔ (word.now ≡ codes "work") }
+{
+    word == b"work".as_slice()
 }
 
 /// The limits that the options set; each stands there once at most, in either order.
@@ -239,6 +265,18 @@ fn count(word: &[u8]) -> Option<u64>
     ensures { result ≡ count_of word.now }
 {
     if word.len() > 18 { None } else { number(word) }
+}
+
+/// The number of blocks that a word spells, from 1 to 200.
+fn blocks_in(word: &[u8]) -> Option<u32>
+    ensures some { IfSome result (SpellsBlocks word.now) }
+    ensures none { IfNone result ((blocks : ℕ) → SpellsBlocks word.now blocks → ⊥) }
+{
+    let blocks = count(word)?;
+    if blocks < 1 || blocks > u64::from(MAX_BLOCKS) {
+        return None;
+    }
+    Some(blocks as u32)
 }
 
 /// The names of the files that a command opens; `None` for a file that it does not use.

@@ -3,6 +3,9 @@ ghost use Rattle.kn_tool.specs.Words.{Asked, HasShape, HasNoShape, texts, named_
 
 use crate::{Command, Names, parse};
 
+/// The file into which `work` writes its proof.
+const WORK_PROOF: &[u8] = b"work.kpf";
+
 /// The names that the words give; all are `None` where they ask for no command.
 pub fn names<'a>(words: &'a [Vec<u8>]) -> Names<'a>
     ensures shaped { (asked : Asked) → HasShape (texts words.now) asked → named_in result ≡ named_by asked }
@@ -33,6 +36,11 @@ pub fn names<'a>(words: &'a [Vec<u8>]) -> Names<'a>
             formula: Some(formula),
             proof_in: Some(proof),
             proof_out: None,
+        },
+        Some(Command::Work { .. }) => Names {
+            formula: None,
+            proof_in: None,
+            proof_out: Some(WORK_PROOF),
         },
         None => Names {
             formula: None,

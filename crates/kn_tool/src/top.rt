@@ -3,6 +3,7 @@ ghost use Rattle.kn_tool.specs.Words.{Asked, HasShape, HasNoShape, AsksFor, text
 ghost use Rattle.kn_tool.specs.Changes.{source_change, sink_change};
 ghost use Rattle.kn_tool.specs.Outcomes.{files_change, RowOf, Tells, HeadlineOf, CompleteOf, AnswersUsage};
 ghost use Rattle.kn_tool.specs.Replies.{IsReply, IsTold, Sent};
+ghost use Rattle.kn_tool.specs.WorkReplies.{AreInRange};
 
 use crate::answer::USAGE;
 use crate::checking::check_files;
@@ -11,6 +12,7 @@ use crate::extracting::extract_file;
 use crate::reply::Reply;
 use crate::solving::solve_file;
 use crate::trimming::trim_files;
+use crate::working::work_blocks;
 use crate::{Answer, Command, Which, parse};
 use kn_bytes::{Sink, Source, write_all};
 use kn_search::Options;
@@ -65,6 +67,7 @@ fn carry_out<F: Source, Q: Source, P: Sink>(
     proof_in: &mut Q,
     proof_out: &mut P,
 ) -> Reply
+    requires { AreInRange (option_map asked_by command) }
     ensures reply { IsReply (RowOf (option_map asked_by command.entry) (files_change
         (source_change F.Source formula.old formula.new)
         (source_change Q.Source proof_in.old proof_in.new)
@@ -89,6 +92,7 @@ fn carry_out<F: Source, Q: Source, P: Sink>(
         Some(Command::Extract { .. }) => extract_file(alloc, formula),
         Some(Command::Convert { .. }) => convert_file(alloc, formula),
         Some(Command::Trim { .. }) => trim_files(alloc, formula, proof_in),
+        Some(Command::Work { blocks }) => work_blocks(alloc, blocks, proof_out),
         None => Reply::Usage,
     }
 }

@@ -1,9 +1,12 @@
 use Rattle.kn_tool.specs.Words.{Named}
-use Rattle.kn_tool.proofs.Shapes.{no_command, same_name}
+use Rattle.kn_tool.proofs.Shapes.{no_command, same_name, in_range}
 use Rattle.kn_tool.proofs.Replies.{told, told_usage}
 use Rattle.kn_tool.proofs.Headline.{headline}
 use Rattle.kn_tool.proofs.Complete.{complete}
 use Rattle.kn_tool.proofs.top.run.Goals as goal
+
+pub carry_out-reply-requires : goal.carry_out-reply-requires
+carry_out-reply-requires g c = in_range _ _ c.parse.ensures
 
 pub returns-clause-tells : goal.returns-clause-tells
 returns-clause-tells g c = (_, c.parse.ensures, told _ _ c.carry_out-reply.result _ c.carry_out-reply.ensures.reply c.tell.ensures.told)
