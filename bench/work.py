@@ -22,13 +22,13 @@ def summary(count, made, answer):
     return said + (b"c proof verified\ns UNSATISFIABLE\n" if answer == 20 else b"s UNKNOWN\n")
 
 
-def checked(name, answer, folder, limit):
+def checked(answer, folder, limit):
     """Words on the seconds of checking the proof that was written."""
     path = os.path.join(folder, "work.kpf")
     if os.path.getsize(path) > solvers.LONGEST:
         return "too long"
     os.rename(path, os.path.join(folder, "proof.kpf"))
-    seconds = solvers.check(name, answer, folder, limit)
+    seconds = solvers.check("f.cnf", answer, folder, limit)
     return "stopped" if seconds is None else f"{seconds:.3f}"
 
 
@@ -44,7 +44,7 @@ def row(count, given, folder):
         solvers.fail(name, f"status {status}, {said[:200]!r}")
     path = os.path.join(folder, "work.kpf")
     size, conflicts = os.path.getsize(path), solvers.learned(path)
-    checking = checked(name, answer, folder, given.limit)
+    checking = checked(answer, folder, given.limit)
     print(f"{count:>7} {seconds:>9.3f} {peak / 1e6:>8.1f} {conflicts:>8} {size:>11} {checking:>9}"
           f" {beside(made, given, folder)}", flush=True)
 
