@@ -53,7 +53,7 @@ enum Answer {
 }
 
 // the answer to a seed of the formula that a text spells; an error as well where the formula has no such variable
-fn answer(alloc: Global, text: &[u8], seed: u64) -> Result<Answer, ReadError> {
+fn answer_to(alloc: Global, text: &[u8], seed: u64) -> Result<Answer, ReadError> {
     let f = read_formula(alloc, text)?;
     let store = stored(alloc, &f)?;
     if seed == 0 || seed > store.vars() {
@@ -141,7 +141,7 @@ fn a_seed_has_one_of_nine_answers(rt: HostRuntime) -> Result<(), Fail> {
         (WIDE, 21, Answer::Wide { stage: 9 }),
     ];
     for (text, seed, want) in cases {
-        let Ok(got) = answer(rt.alloc(), text.as_bytes(), seed) else {
+        let Ok(got) = answer_to(rt.alloc(), text.as_bytes(), seed) else {
             return Err("no answer".into());
         };
         assert!(rt; got == want, "seed {seed}");
@@ -183,7 +183,7 @@ fn large_groups_are_refused(rt: HostRuntime) -> Result<(), Fail> {
         (star(rt.alloc())?, 130, Answer::WideBorder),
     ];
     for (text, seed, want) in cases {
-        let Ok(got) = answer(rt.alloc(), &text, seed) else {
+        let Ok(got) = answer_to(rt.alloc(), &text, seed) else {
             return Err("no answer".into());
         };
         assert!(rt; got == want, "seed {seed}");
