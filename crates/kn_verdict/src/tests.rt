@@ -133,8 +133,19 @@ fn drawn_group(alloc: Global, number: u64) -> Result<Group, NoMemory>
         drawn_clause(alloc, at ^ 16, z, Lit::new(5, false))?,
         drawn_clause(alloc, at ^ 20, Lit::new(6, true), five)?,
     ]?;
+    group_of(alloc, taken)
+}
+
+// The group of these clauses, with -1, 2 and -3 as its border and 4, 5 and 6 as its auxiliary variables.
+fn group_of(alloc: Global, taken: Vec<Constraint>) -> Result<Group, NoMemory>
+    requires clauses { AllByRecursion (λ c. is_clause c ≡ true) taken.items }
+    requires covered { AllByRecursion (λ c. AllByRecursion (IsCovered (record { aux = 4 ∷ 5 ∷ 6 ∷ []; taken = []; border = record { variable = 1; positive = false } ∷ record { variable = 2; positive = true } ∷ record { variable = 3; positive = false } ∷ [] })) c.lits) taken.items }
+    ensures border { IfOk result (λ g. length g.border ≡ 3) }
+    ensures aux { IfOk result (λ g. length g.aux ≡ 3) }
+{
     let aux = Vec::from_slice(alloc, &[4, 5, 6])?;
-    let border = Vec::from_slice(alloc, &[x, y, z])?;
+    let border = [Lit::new(1, false), Lit::new(2, true), Lit::new(3, false)];
+    let border = Vec::from_slice(alloc, &border)?;
     Ok(Group::new(aux, taken, border))
 }
 
