@@ -17,7 +17,7 @@ const LARGE_INCREMENT: u64 = 1 << 52;
 
 const HALVINGS: u32 = 32;
 
-/// How much more a variable leans to what a bound above 1 asks for, for each of the bound, than to the sign that it has in a clause.
+/// How many clauses a bound above 1 outweighs, for each of the bound, where a variable's first value is chosen.
 const KLAUSE_WEIGHT: i64 = 1 << 20;
 
 /// Chooses the literals that are assumed. Of its heap and its table nothing is promised, they serve to choose well: but a
