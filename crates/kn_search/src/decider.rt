@@ -17,6 +17,9 @@ const LARGE_INCREMENT: u64 = 1 << 52;
 
 const HALVINGS: u32 = 32;
 
+/// How many clauses a bound above 1 outweighs, for each of the bound, where a variable's first value is chosen.
+const KLAUSE_WEIGHT: i64 = 1 << 20;
+
 /// Chooses the literals that are assumed. Of its heap and its table nothing is promised, they serve to choose well: but a
 /// literal that is chosen has no value, and none is chosen only where each variable has a value.
 #[derive(Debug, Drop)]
@@ -41,13 +44,9 @@ impl Decider {
     }
 
     /// Takes notice of a constraint, before the first choice: variables that it names are more active, and they lean to
-    /// what a bound above 1 asks for.
+    /// what bounds above 1 ask for, or else to the sign that they have in more clauses.
     pub fn meet(&mut self, bound: u64, lits: &[Lit]) {
-        let weight = if bound > 1 {
-            i64::try_from(bound).unwrap_or(i64::MAX)
-        } else {
-            0
-        };
+        let weight = weight_of(bound);
         for lit in lits {
             self.heap.raise(lit.var(), 1);
             self.lean(*lit, weight);
@@ -136,6 +135,16 @@ impl Decider {
         if let Some(leaning) = self.leanings.get_mut(lit.var() as usize) {
             *leaning = if lit.is_positive() { 1 } else { 0 };
         }
+    }
+}
+
+/// How much the variables of a constraint with this bound lean to it.
+fn weight_of(bound: u64) -> i64 {
+    let weight = i64::try_from(bound).unwrap_or(i64::MAX);
+    if bound > 1 {
+        weight.saturating_mul(KLAUSE_WEIGHT)
+    } else {
+        weight
     }
 }
 

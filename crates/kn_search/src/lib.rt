@@ -23,3 +23,6 @@ pub use laws::large_budgets_are_not_spent;
 pub use loading::engine_of;
 pub use outcome::{Options, Outcome, SearchError};
 pub use searching::search;
+
+#[cfg(test)]
+mod tests;
