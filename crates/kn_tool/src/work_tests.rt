@@ -5,7 +5,7 @@ use crate::{Answer, Which, names, run};
 use kn_bytes::{GrowSink, MemSink, MemSource, Sink};
 use kn_extract::extract;
 use kn_format::write_cnf;
-use kn_gen::make_formula;
+use kn_gen::{blocks_are_counted, make_formula};
 use std::alloc::{AllocError, Global};
 use std::test::Fail;
 
@@ -176,6 +176,7 @@ fn sizes(alloc: Global, blocks: u32) -> Result<(u64, usize, usize), AllocError>
     requires first { 1 ≤ blocks }
     requires last { blocks ≤ 200 }
 {
+    blocks_are_counted();
     let f = make_formula(alloc, blocks)?;
     let (vars, clauses) = (f.vars(), f.len());
     let e = extract(alloc, f)?;
