@@ -1,3 +1,4 @@
+//! Why a formula has no clauses. Too many variables are no want of memory: they are counted before a clause is made.
 ghost use Rattle.std.specs.Prelude.{◌≡◌};
 ghost use Rattle.kn_counter.specs.declared.error.CountError.TheVariants.{Memory};
 

@@ -1,3 +1,4 @@
+//! Why an operation gives no node. `Wide` tells of functions alone: no choice of the code brings it or spares it.
 ghost use Rattle.kn_diagram.specs.declared.error.DiagramError.TheVariants.{Memory};
 
 use kn_logic::NoMemory;

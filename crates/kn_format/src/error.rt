@@ -1,3 +1,4 @@
+//! Why a text is refused: a line and a cause, both numbers, so that programs can compare what they are told.
 ghost use Rattle.std.specs.Prelude.{◌≡◌};
 ghost use Rattle.kn_format.specs.declared.error.ReadError.TheVariants.{Memory};
 

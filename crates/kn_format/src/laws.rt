@@ -1,3 +1,4 @@
+//! No text has two meanings, and none both a meaning and a fault: what one reader takes, another cannot refuse.
 ghost use Rattle.std.specs.Prelude.{ℕ, ◌≡◌, List};
 ghost use Rattle.kn_logic.specs.Formulas.{Problem};
 ghost use Rattle.kn_format.specs.declared.error.Refusal.{Refusal};

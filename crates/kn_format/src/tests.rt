@@ -1,3 +1,4 @@
+//! First faults, by line and cause, of texts that are cut or wrong in one place, and texts that are written again.
 use super::*;
 use kn_logic::{Assignment, Constraint, Formula, Lit};
 use std::alloc::Global;

@@ -1,3 +1,4 @@
+//! Why a line was not read. `Bad` has no finer cause, since the checker tells one cause for all such lines.
 ghost use Rattle.std.specs.Prelude.{◌≡◌};
 ghost use Rattle.kn_lines.specs.declared.error.LineError.TheVariants.{Memory};
 

@@ -1,3 +1,4 @@
+//! Writing a line, in one of the spellings that are read: one space between words, and no zeros in front.
 ghost use Rattle.std.specs.Prelude.{◌≡◌, ◌<◌, ◌^◌, ◌++◌, OnOk, IfOk};
 ghost use Rattle.kn_text.specs.Lines.{line_text};
 ghost use Rattle.kn_text.specs.Numbers.{literal_word, IsWritable};

@@ -1,3 +1,4 @@
+//! Why a line was not logged. Only `Fault` is final: the log is then ahead of its sink, and takes no more lines.
 ghost use Rattle.std.specs.Prelude.{◌≡◌};
 ghost use Rattle.kn_log.specs.declared.error.LogError.TheVariants.{Memory};
 

@@ -1,3 +1,4 @@
+//! Why an elimination stopped. Which stage is the first wide one is a matter of the group, not of how it is computed.
 ghost use Rattle.kn_quant.specs.declared.error.QuantError.TheVariants.{Memory};
 
 use kn_logic::NoMemory;

@@ -1,3 +1,4 @@
+//! The checker for those who make proofs line by line. It lends constraints, so it keeps more than `check` needs.
 ghost use Rattle.std.specs.Prelude.{◌≡◌, ◌≤◌, ◌<◌, ◌+◌, ◌++◌, ◌∷◌, ◌^◌, [], length, vec_capacity, Ok, Err, IfOk, IfSome, IsOk, OnOk, OnErr, option_copied, if◌then◌else◌};
 ghost use Rattle.kn_logic.specs.Constraints.{IsWithin};
 ghost use Rattle.kn_lines.specs.Lines.{IsWellFormed};

@@ -1,3 +1,4 @@
+//! The state of a proof, and the step of each kind of line. Causes are tested in a fixed order: the first is told.
 ghost use Rattle.std.specs.Prelude.{◌≡◌, ◌≤◌, ◌+◌, ◌^◌, length, Ok, Err, IfOk, IfSome, IsOk, OnOk, OnErr, option_copied, if◌then◌else◌};
 ghost use Rattle.kn_logic.specs.Constraints.{clause, klause, IsWithin};
 ghost use Rattle.kn_lines.specs.Lines.{IsWellFormed};

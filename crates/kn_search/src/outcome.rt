@@ -1,3 +1,4 @@
+//! What is asked of a search, and what comes of it. A spent budget is an outcome; want of memory is an error.
 ghost use Rattle.std.specs.Prelude.{◌≡◌};
 ghost use Rattle.kn_search.specs.Outcomes.{error_of};
 ghost use Rattle.kn_search.specs.declared.outcome.SearchError.TheVariants.{Memory};

@@ -1,3 +1,4 @@
+//! The answers of the program. Statuses 10 and 20 and the `s` lines of `solve` are those of the SAT Competition.
 ghost use Rattle.std.specs.Prelude.{◌≡◌, ◌++◌, IfOk, OnOk, codes};
 ghost use Rattle.kn_tool.specs.Answers.{status_of, answer_text, place_text, which_text, usage_text};
 

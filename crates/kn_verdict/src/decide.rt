@@ -1,3 +1,4 @@
+//! From a group to its verdict: its clauses are eliminated and the result is measured; a count has no diagram here.
 ghost use Rattle.std.specs.Prelude.{◌≡◌, ◌≤◌, ◌+◌, length, IfOk};
 ghost use Rattle.kn_quant.specs.Eliminations.{IsEliminationOf};
 ghost use Rattle.kn_verdict.specs.Cardinals.{IsNarrow};

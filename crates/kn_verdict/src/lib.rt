@@ -5,8 +5,8 @@
 //! `specs/Numbers.antt`.
 #![tactic(auto)]
 
-mod answer;
-mod decide;
+mod answer; // `Verdict`
+mod decide; // `verdict`
 mod fewest;
 mod laws;
 mod measure;

@@ -1,3 +1,4 @@
+//! Groups with each answer but a wide stage, and drawn ones against all values of their six variables.
 ghost use Rattle.std.specs.Prelude.{◌≡◌, [], ◌∷◌, true, false, length, IfOk};
 ghost use Rattle.std.specs.List.{AllByRecursion};
 ghost use Rattle.kn_logic.specs.Constraints.{clause, is_clause};
