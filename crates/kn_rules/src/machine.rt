@@ -287,7 +287,7 @@ impl Machine {
         is_root(self.alloc, self.entries.definitions(), lits, bound, root)
     }
 
-    /// The same of the grid of a live id's constraint.
+    /// The same of the grid of a live id's constraint. Of another id nothing is said, and nobody asks.
     fn is_root_of(&self, id: u64, root: u64) -> Result<bool, NoMemory>
         ensures { IfOk result (λ yes. IfSome (live_at self.now.given id) (λ c. yes ≡ is_root (definition_of self.now) c.lits c.bound root)) }
     {
