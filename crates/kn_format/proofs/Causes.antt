@@ -1,5 +1,5 @@
 -- Which causes a problem line can have, and which a word behind it.
-use Rattle.std.proofs.Common.{◌≡◌, ℕ, ◌≤◌, nat_lt, Bool, true, false, if◌then◌else◌, List, [], ◌∷◌, length, Option, Some, None, Ok, Err, subst, arith}
+use Rattle.std.proofs.Common.{◌≡◌, ℕ, ◌≤◌, nat_lt, Bool, true, false, if◌then◌else◌, List, [], ◌∷◌, Option, Some, None, Ok, Err, subst, arith}
 use Rattle.std.specs.Prelude.{Result, codes}
 use Rattle.std.specs.Str.{bytes_eq}
 use Rattle.kn_logic.specs.Literals.{Literal, names}

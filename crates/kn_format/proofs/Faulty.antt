@@ -1,28 +1,23 @@
--- The first fault is the first word behind which no formula can follow, or the end of the text.
-use Rattle.std.proofs.Common.{◌≡◌, ℕ, ◌≤◌, ◌<◌, ◌+◌, ◌==◌, nat_lt, Bool, true, false, ◌&&◌, if◌then◌else◌, List, [], ◌∷◌, ◌++◌, length, Option, Some, None, Ok, Err, refl, sym, ap, subst, ◌∙◌, append_assoc, arith, inl, inr, ◌⊎◌}
+-- The first fault is the first word with which no formula begins so, or the end of the text.
+use Rattle.std.proofs.Common.{◌≡◌, ℕ, ◌≤◌, ◌<◌, ◌+◌, ◌==◌, Bool, true, false, if◌then◌else◌, List, [], ◌∷◌, ◌++◌, length, Ok, Err, refl, sym, ap, subst, ◌∙◌, append_assoc, arith, inl, inr, ◌⊎◌}
 use Rattle.std.proofs.lemmas.List.{append-nil}
 use Rattle.std.proofs.lemmas.Bool.{eqb-true, eq-eqb}
 use Rattle.std.proofs.lemmas.Bool.Decides.{nat_tests}
-use Rattle.std.specs.Prelude.{Result, codes}
-use Rattle.std.specs.Str.{bytes_eq}
-use Rattle.kn_logic.specs.Literals.{Literal, names}
-use Rattle.kn_logic.specs.Constraints.{Bounded, clause, named}
+use Rattle.std.specs.Prelude.{Result}
+use Rattle.kn_logic.specs.Constraints.{Bounded}
 use Rattle.kn_logic.specs.Formulas.{Problem}
 use Rattle.kn_text.specs.Lines.{Line, lines_of, content_of}
-use Rattle.kn_text.specs.Numbers.{number_of, literal_of, is_end}
 use Rattle.kn_format.specs.declared.error.Refusal.{Refusal}
-use Rattle.kn_format.specs.declared.format.Format.{Format}
-use Rattle.kn_format.specs.declared.format.Format.TheVariants.{Cnf, Knf}
 use Rattle.kn_format.specs.declared.header.Header.{Header}
 use Rattle.kn_format.specs.declared.place.Place.{Place}
 use Rattle.kn_format.specs.declared.place.Place.TheVariants.{Between, Guard, Bound, Clause, Klause}
-use Rattle.kn_format.specs.Grammar.{highest_bound, BeginsTail, words_in}
-use Rattle.kn_format.specs.Faults.{Reading, nothing, start, is_full, is_above, marks, begin, empty_clause, first_word, guard, bound, end, within_clause, within_klause, at, after, after_words, ◌>>=◌, is_between, is_percent, is_done, ends, at_end, refusal, header_of, no_header, too_many_constraints, bad_token, variable_above_header, bound_too_large, repeated_variable, extra_constraint, unended, missing_constraint, IsBadWord, IsBadEnd, IsFaultIn, IsFirstFault}
+use Rattle.kn_format.specs.Grammar.{BeginsTail, words_in}
+use Rattle.kn_format.specs.Faults.{Reading, nothing, start, is_full, end, at, after, after_words, ◌>>=◌, is_between, is_percent, is_done, ends, at_end, refusal, header_of, no_header, too_many_constraints, bad_token, extra_constraint, unended, missing_constraint, IsBadWord, IsBadEnd, IsFaultIn, IsFirstFault}
 use Rattle.kn_format.specs.FirstFaults.{HasHeader, AreConstraints, CanGoOn, HasGuards, IsFirstWrong, EndWithin, AreTooFew}
 use Rattle.kn_format.proofs.Steps.{reading}
 use Rattle.kn_format.proofs.Spelled.{is_read}
-use Rattle.kn_format.proofs.Back.{okay, is_ok, constraints_are_spelled}
-use Rattle.kn_format.proofs.Whole.{after_both, header_is_read, header_was_spelled, tail_is_percent, and_true, at_between}
+use Rattle.kn_format.proofs.Back.{is_ok, first_step, constraints_are_spelled}
+use Rattle.kn_format.proofs.Whole.{after_both, header_is_read, header_was_spelled, tail_is_percent, and_true, at_between, both_hold, percent_is_tail}
 use Rattle.kn_format.proofs.First.{bad_word_stays}
 use Rattle.kn_format.proofs.Causes.{IsOfWord, word_cause, header_cause}
 use Rattle.kn_format.proofs.Completed.{HasRoom, Reached, words_reach, Completes, can_be_completed}
@@ -155,11 +150,15 @@ not_exceeded Klause done count room = omega arith
 fewer : (n count : ℕ) → n ≤ count → (n == count) ≡ false → n < count
 fewer n count few e = grind (arith, nat_tests)
 
+few_enough : (h : Header) (words : List (List ℕ)) (here : Reading) → after_words (start h) words ≡ Ok here → length here.formula.constraints ≤ h.count
+few_enough h words here read =
+    let kept : Reached h.format h.count h.vars here = from_start h words here read in
+    subst (λ (r : Reading). length r.formula.constraints ≤ h.count) (sym kept.same) (not_exceeded kept.place kept.done h.count kept.room)
+
 too_few : (h : Header) (words : List (List ℕ)) (here : Reading) → after_words (start h) words ≡ Ok here → is_between here.place ≡ true → is_full here ≡ false → AreTooFew h words
 too_few h words here read between full =
     let kept : Reached h.format h.count h.vars here = from_start h words here read in
-    let n : length here.formula.constraints ≤ h.count =
-    subst (λ (r : Reading). length r.formula.constraints ≤ h.count) (sym kept.same) (not_exceeded kept.place kept.done h.count kept.room) in
+    let n : length here.formula.constraints ≤ h.count = few_enough h words here read in
     let other : (length here.formula.constraints == h.count) ≡ false = ap (λ c. length here.formula.constraints == c) (sym (count_kept h here kept)) ∙ full in (
       length here.formula.constraints,
       fewer (length here.formula.constraints) h.count n other,
@@ -244,3 +243,100 @@ header_in bytes last (problem ∷ lines) fault same (inr (h, e, faulty)) late =
 
 pub header_of_text : (bytes : List ℕ) (fault : Refusal) → IsFirstFault bytes fault → bad_token ≤ fault.why → (h : Header) × (lines : List Line) × HasHeader bytes h lines
 header_of_text bytes fault faulty late = header_in bytes (length (lines_of bytes)) (content_of bytes) fault refl faulty late
+
+-- Conversely: words that can go on are read,
+record IsReadTo (h : Header) (words : List (List ℕ)) : Type 0 where
+  here : Reading
+  read : after_words (start h) words ≡ Ok here
+
+goes_on_read : (h : Header) (words : List (List ℕ)) → CanGoOn h words → IsReadTo h words
+goes_on_read h words (behind, all) =
+    let w : Ends h (words ++ behind) h.count = are_read h (words ++ behind) h.count (omega arith) all in
+    let f = first_step (after_words (start h) words) (λ n. after_words n behind) w.last (sym (after_both words behind (start h)) ∙ w.read) in
+    record { here = f.0; read = f.1 }
+
+-- and one with which they cannot has a cause.
+record HasCause (r : Reading) (word : List ℕ) : Type 0 where
+  cause : ℕ
+  bad : after r word ≡ Err cause
+
+has_cause : (h : Header) (words : List (List ℕ)) (word : List ℕ) (here : Reading) (x : Result Reading ℕ) → HasGuards h → after_words (start h) words ≡ Ok here
+    → (CanGoOn h (words ++ word ∷ []) → ⊥) → after here word ≡ x → HasCause here word
+has_cause h words word here (Err cause) guards read wrong e = record { cause = cause; bad = e }
+has_cause h words word here (Ok next) guards read wrong e =
+    let all : after_words (start h) (words ++ word ∷ []) ≡ Ok next =
+    after_both words (word ∷ []) (start h) ∙ ap (λ x. x >>= λ n. after_words n (word ∷ [])) read ∙ ap (λ x. x >>= λ n. after_words n []) e in
+    absurd (wrong (can_go_on h (words ++ word ∷ []) next all guards))
+
+are_all : (h : Header) (words : List (List ℕ)) (here : Reading) → after_words (start h) words ≡ Ok here → is_done here ≡ true → AreConstraints h h.count words
+are_all h words here read done =
+    let d = both_hold (is_between here.place) (is_full here) done in
+    let number : length here.formula.constraints ≡ h.count =
+    eqb-true (length here.formula.constraints) here.count d.1 ∙ count_kept h here (from_start h words here read) in
+    subst (λ n. AreConstraints h n words) number (are_constraints h words here read (at_between here.place d.0))
+
+no_end-at : (h : Header) (before front line : List (List ℕ)) (here : Reading) (t : Bool) → after_words (start h) (before ++ front) ≡ Ok here
+    → (front ≡ [] → BeginsTail line → AreConstraints h h.count before → ⊥) → front ≡ [] → ends here line ≡ t → ends here line ≡ false
+no_end-at h before front line here false read body none e = e
+no_end-at h before front line here true read body none e =
+    let d = both_hold (is_done here) (is_percent line) e in
+    let all_read : after_words (start h) before ≡ Ok here = ap (after_words (start h)) (sym (append-nil before) ∙ ap (λ ws. before ++ ws) (sym none)) ∙ read in
+    absurd (body none (percent_is_tail line d.1) (are_all h before here all_read d.0))
+
+-- the fault of a text whose problem line is well formed
+fault_in : (bytes : List ℕ) (h : Header) (lines : List Line) (fault : Refusal) → HasHeader bytes h lines
+    → IsBadWord (start h) lines fault ⊎ IsBadEnd (length (lines_of bytes)) (start h) lines fault → IsFirstFault bytes fault
+fault_in bytes h lines fault has faulty =
+    subst (λ (ls : List Line). IsFaultIn (length (lines_of bytes)) ls fault) (sym has.content)
+    (inr (h, header_is_read has.problem.words h has.header has.vars has.count, faulty))
+
+pub wrong_is_fault : (bytes : List ℕ) (h : Header) (lines : List Line) (number : ℕ) → HasHeader bytes h lines → HasGuards h → IsFirstWrong h lines number
+    → (why : ℕ) × (why ≤ extra_constraint) × IsFirstFault bytes (refusal number why)
+wrong_is_fault bytes h lines number has guards w =
+    let r : IsReadTo h (words_in w.before ++ w.front) = goes_on_read h (words_in w.before ++ w.front) (w.begins guards) in
+    let c : HasCause r.here w.word = has_cause h (words_in w.before ++ w.front) w.word r.here (after r.here w.word) guards r.read w.wrong refl in
+    let cause : IsOfWord c.cause = word_cause r.here.place r.here w.word c.cause c.bad in (
+      c.cause,
+      cause.1,
+      fault_in bytes h lines (refusal number c.cause) has (inl (record {
+        before = w.before;
+        line = w.line;
+        behind = w.behind;
+        front = w.front;
+        word = w.word;
+        back = w.back;
+        here = r.here;
+        parts = w.parts;
+        words = w.words;
+        read = r.read;
+        body = λ none. no_end-at h (words_in w.before) w.front w.line.words r.here (ends r.here w.line.words) r.read w.body none refl;
+        cause = c.bad;
+        number = sym w.place;
+      })),
+    )
+
+not_between-at : (h : Header) (words : List (List ℕ)) (here : Reading) (t : Bool) → after_words (start h) words ≡ Ok here
+    → ((count : ℕ) → count ≤ h.count → AreConstraints h count words → ⊥) → is_between here.place ≡ t → is_between here.place ≡ false
+not_between-at h words here false read within e = e
+not_between-at h words here true read within e =
+    absurd (within (length here.formula.constraints) (few_enough h words here read) (are_constraints h words here read (at_between here.place e)))
+
+pub within_is_fault : (bytes : List ℕ) (h : Header) (lines : List Line) → HasHeader bytes h lines → HasGuards h → EndWithin h (words_in lines)
+    → IsFirstFault bytes (refusal (length (lines_of bytes)) unended)
+within_is_fault bytes h lines has guards w =
+    let r : IsReadTo h (words_in lines) = goes_on_read h (words_in lines) (w.begins guards) in
+    let begun : is_between r.here.place ≡ false = not_between-at h (words_in lines) r.here (is_between r.here.place) r.read w.within refl in
+    let cause : at_end (length (lines_of bytes)) r.here ≡ Err (refusal (length (lines_of bytes)) unended) = rw begun refl in
+    fault_in bytes h lines (refusal (length (lines_of bytes)) unended) has (inr (record { here = r.here; read = r.read; cause = cause }))
+
+not_all : (n m count : ℕ) → n ≡ m → m < count → (n == count) ≡ false
+not_all n m count e few = grind (arith, nat_tests)
+
+pub few_is_fault : (bytes : List ℕ) (h : Header) (lines : List Line) → HasHeader bytes h lines → AreTooFew h (words_in lines)
+    → IsFirstFault bytes (refusal (length (lines_of bytes)) missing_constraint)
+few_is_fault bytes h lines has (number, few, all) =
+    let w : Ends h (words_in lines) number = are_read h (words_in lines) number (omega arith) all in
+    let between : is_between w.last.place ≡ true = ap is_between w.place in
+    let short : is_full w.last ≡ false = ap (λ c. length w.last.formula.constraints == c) w.count ∙ not_all (length w.last.formula.constraints) number h.count w.all few in
+    let cause : at_end (length (lines_of bytes)) w.last ≡ Err (refusal (length (lines_of bytes)) missing_constraint) = rw (between, short) refl in
+    fault_in bytes h lines (refusal (length (lines_of bytes)) missing_constraint) has (inr (record { here = w.last; read = w.read; cause = cause }))

@@ -139,7 +139,7 @@ tail_is_percent [] tail = absurd tail
 tail_is_percent ([] ∷ words) tail = absurd tail
 tail_is_percent ((b ∷ word) ∷ words) tail = eq-eqb b 37 tail
 
-percent_is_tail : (words : List (List ℕ)) → is_percent words ≡ true → BeginsTail words
+pub percent_is_tail : (words : List (List ℕ)) → is_percent words ≡ true → BeginsTail words
 percent_is_tail [] percent = absurd cc
 percent_is_tail ([] ∷ words) percent = absurd cc
 percent_is_tail ((b ∷ word) ∷ words) percent = eqb-true b 37 percent

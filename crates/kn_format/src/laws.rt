@@ -4,8 +4,8 @@ ghost use Rattle.kn_text.specs.Lines.{Line, lines_of};
 ghost use Rattle.kn_format.specs.declared.error.Refusal.{Refusal};
 ghost use Rattle.kn_format.specs.declared.header.Header.{Header};
 ghost use Rattle.kn_format.specs.Grammar.{Spells, words_in};
-ghost use Rattle.kn_format.specs.Faults.{IsFirstFault, bad_token, extra_constraint, unended, missing_constraint};
-ghost use Rattle.kn_format.specs.FirstFaults.{HasHeader, IsFirstWrong, EndWithin, AreTooFew};
+ghost use Rattle.kn_format.specs.Faults.{IsFirstFault, refusal, bad_token, extra_constraint, unended, missing_constraint};
+ghost use Rattle.kn_format.specs.FirstFaults.{HasHeader, HasGuards, IsFirstWrong, EndWithin, AreTooFew};
 
 /// A text spells at most one formula, has at most one first fault, and never both.
 pub fn a_text_has_one_reading()
@@ -27,4 +27,14 @@ pub fn a_first_fault_leaves_no_formula()
         fault.why ≡ unended → (fault.line ≡ length (lines_of bytes)) × EndWithin h (words_in lines) }
     ensures few { (bytes : List ℕ) (h : Header) (lines : List Line) (fault : Refusal) → HasHeader bytes h lines → IsFirstFault bytes fault →
         fault.why ≡ missing_constraint → (fault.line ≡ length (lines_of bytes)) × AreTooFew h (words_in lines) }
+{}
+
+/// And there alone: a text whose words leave no formula in one of these ways has its first fault there.
+pub fn what_leaves_no_formula_is_the_first_fault()
+    ensures word { (bytes : List ℕ) (h : Header) (lines : List Line) (number : ℕ) → HasHeader bytes h lines → HasGuards h →
+        IsFirstWrong h lines number → (why : ℕ) × (why ≤ extra_constraint) × IsFirstFault bytes (refusal number why) }
+    ensures within { (bytes : List ℕ) (h : Header) (lines : List Line) → HasHeader bytes h lines → HasGuards h →
+        EndWithin h (words_in lines) → IsFirstFault bytes (refusal (length (lines_of bytes)) unended) }
+    ensures few { (bytes : List ℕ) (h : Header) (lines : List Line) → HasHeader bytes h lines →
+        AreTooFew h (words_in lines) → IsFirstFault bytes (refusal (length (lines_of bytes)) missing_constraint) }
 {}

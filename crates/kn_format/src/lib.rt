@@ -17,7 +17,10 @@ mod write;
 
 pub use error::{ReadError, Refusal};
 pub use format::Format;
-pub use laws::{a_first_fault_leaves_no_formula, a_text_has_one_reading};
+pub use laws::{
+    a_first_fault_leaves_no_formula, a_text_has_one_reading,
+    what_leaves_no_formula_is_the_first_fault,
+};
 pub use read::read_formula;
 pub use write::{write_cnf, write_knf, write_model};
 
