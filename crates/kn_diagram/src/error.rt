@@ -2,6 +2,8 @@
 ghost use Rattle.kn_diagram.specs.declared.error.DiagramError.TheVariants.{Memory};
 
 use kn_logic::NoMemory;
+use std::error::Error;
+use std::fmt;
 
 /// Why an operation on diagrams gave no node.
 #[derive(Clone, Copy, Debug, PartialEq, Eq)]
@@ -12,6 +14,17 @@ pub enum DiagramError {
     /// Memory ran out.
     Memory,
 }
+
+impl fmt::Display for DiagramError {
+    fn fmt<W: fmt::Write>(&self, f: &mut fmt::Formatter<W>) -> fmt::Result {
+        match self {
+            DiagramError::Wide { level } => write!(f, "the function is wide at variable {level}"),
+            DiagramError::Memory => write!(f, "memory is short"),
+        }
+    }
+}
+
+impl Error for DiagramError {}
 
 impl From<NoMemory> for DiagramError {
     ghost use Rattle.std.specs.Prelude.{◌≡◌};

@@ -14,6 +14,8 @@ use crate::machine::Machine;
 use kn_lines::{Arm, Line};
 use kn_logic::{Constraint, Formula, Lit, NoMemory};
 use std::alloc::{AllocError, AllocFailed, Global};
+use std::error::Error;
+use std::fmt;
 use std::marker::Model;
 
 /// Why a line was not taken.
@@ -26,6 +28,29 @@ pub enum FeedError {
     /// Want of memory.
     Memory,
 }
+
+impl fmt::Display for FeedError {
+    fn fmt<W: fmt::Write>(&self, f: &mut fmt::Formatter<W>) -> fmt::Result {
+        match self {
+            FeedError::Wrong(1) => write!(f, "a header behind the first line"),
+            FeedError::Wrong(3) => write!(f, "an unknown variable"),
+            FeedError::Wrong(4) => write!(f, "an id that is not live"),
+            FeedError::Wrong(5) => write!(f, "hints without a conflict"),
+            FeedError::Wrong(6) => write!(f, "a unit clause that is not the root's"),
+            FeedError::Wrong(7) => write!(f, "a root that does not stand for the grid"),
+            FeedError::Wrong(8) => {
+                write!(
+                    f,
+                    "a klause that names a variable twice, or an unfolded one with a guard"
+                )
+            }
+            FeedError::Wrong(why) => write!(f, "a wrong line, of cause {why}"),
+            FeedError::Memory => write!(f, "memory is short"),
+        }
+    }
+}
+
+impl Error for FeedError {}
 
 impl From<AllocError> for FeedError {
     ghost from_gives = { λ _ e. e ≡ Memory };
