@@ -11,6 +11,7 @@ use Rattle.kn_rules.specs.declared.given.Given.{Given}
 use Rattle.kn_rules.specs.declared.slot.Slot.{Slot}
 use Rattle.kn_rules.specs.declared.slot.Slot.TheVariants.{Kept, Derived, Deleted}
 use Rattle.kn_rules.specs.States.{Defined, given_at, live_at}
+use Rattle.kn_rules.specs.Causes.{not_live}
 use Rattle.kn_rules.specs.Steps.{without, deleted}
 use Rattle.kn_rules.specs.Entries.{origin_of, given_of, IsSlotOf}
 use Rattle.kn_rules.specs.Restoring.{standing_slot, slot_at, without_slot, deleted_slots, put, restored}
@@ -26,7 +27,7 @@ without-keeps P given id (Some entry) h = All-set (λ entry. IfSome entry.live P
 pub deleted-keep : (P : Bounded → Type 0) (ids : List ℕ) (given : List Given) → AllLive P given → IfOk (deleted given ids) (AllLive P)
 deleted-keep P [] given h = h
 deleted-keep P (id ∷ ids) given h =
-    cond_both (is_none (live_at given id)) (Err 4) (deleted (without given id (given_at given id)) ids) (λ r. IfOk r (AllLive P))
+    cond_both (is_none (live_at given id)) (Err not_live) (deleted (without given id (given_at given id)) ids) (λ r. IfOk r (AllLive P))
     (λ _. tt)
     (λ _. deleted-keep P ids (without given id (given_at given id)) (without-keeps P given id (given_at given id) h))
 
@@ -78,7 +79,7 @@ taken-back slots new start ids i id taken slot back len h is live e =
     restored-last new ids taken slot within ∙ ap (λ (k : ℕ). restored (put new k slot) ids taken) same ∙ ap (λ (g : List Slot). restored g ids taken) again ∙ back
 
 step-some : (slots : List Slot) (id : ℕ) (ids : List ℕ) (slot : Slot) → slot_at slots id ≡ Some slot → deleted_slots slots (id ∷ ids) ≡ deleted_slots (without_slot slots id (slot_at slots id)) ids
-step-some slots id ids slot e = cond-false (is_none (slot_at slots id)) (Err 4) _ (ap (λ (o : Option Slot). is_none o) e)
+step-some slots id ids slot e = cond-false (is_none (slot_at slots id)) (Err not_live) _ (ap (λ (o : Option Slot). is_none o) e)
 
 pub taken-rest : (slots new : List Slot) (ids : List ℕ) (i id : ℕ) (slot : Slot) (r : Result (List Slot) ℕ) → deleted_slots slots (drop i ids) ≡ r → i < length ids → id ≡ get_or ids i 0 → slot_at slots id ≡ Some slot → new ≡ without_slot slots id (slot_at slots id) → deleted_slots new (drop (i + 1) ids) ≡ r
 taken-rest slots new ids i id slot r rest h is live e =
@@ -125,7 +126,7 @@ without-right count slots id (Some slot) h = All-set (IsSlotOf count) slots (id 
 deleted-right : (count : ℕ) (ids : List ℕ) (slots : List Slot) → AllByRecursion (IsSlotOf count) slots → IfOk (deleted_slots slots ids) (AllByRecursion (IsSlotOf count))
 deleted-right count [] slots h = h
 deleted-right count (id ∷ ids) slots h =
-    cond_both (is_none (slot_at slots id)) (Err 4) (deleted_slots (without_slot slots id (slot_at slots id)) ids) (λ r. IfOk r (AllByRecursion (IsSlotOf count)))
+    cond_both (is_none (slot_at slots id)) (Err not_live) (deleted_slots (without_slot slots id (slot_at slots id)) ids) (λ r. IfOk r (AllByRecursion (IsSlotOf count)))
     (λ _. tt)
     (λ _. deleted-right count ids _ (without-right count slots id (slot_at slots id) h))
 
@@ -136,7 +137,7 @@ abbrev pub after : Defined → Result (List Slot) ℕ → Result (List Given) �
 after d (Ok slots) = Ok (map (given_of d) slots)
 after d (Err cause) = Err cause
 
-branch : (b : Bool) (d : Defined) (x : Result (List Given) ℕ) (y : Result (List Slot) ℕ) → (b ≡ false → x ≡ after d y) → cond b (Err 4) x ≡ after d (cond b (Err 4) y)
+branch : (b : Bool) (d : Defined) (x : Result (List Given) ℕ) (y : Result (List Slot) ℕ) → (b ≡ false → x ≡ after d y) → cond b (Err not_live) x ≡ after d (cond b (Err not_live) y)
 branch true d x y h = refl
 branch false d x y h = h refl
 
@@ -145,7 +146,7 @@ deleted-after d [] slots h = refl
 deleted-after d (id ∷ ids) slots h =
     let given = map (given_of d) slots in
     let less = without_slot slots id (slot_at slots id) in
-    ap (λ (b : Bool). cond b (Err 4) (deleted (without given id (given_at given id)) ids)) (live-one (eqb id 0) d slots (id - 1) h)
+    ap (λ (b : Bool). cond b (Err not_live) (deleted (without given id (given_at given id)) ids)) (live-one (eqb id 0) d slots (id - 1) h)
     ∙ branch (is_none (slot_at slots id)) d (deleted (without given id (given_at given id)) ids) (deleted_slots less ids)
     (λ e. ap (λ (g : List Given). deleted g ids) (without-slots d slots id e) ∙ deleted-after d ids less (without-right (length d.list) slots id (slot_at slots id) h))
 

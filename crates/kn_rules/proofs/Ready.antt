@@ -12,6 +12,7 @@ use Rattle.kn_rules.specs.States.{ProofState, defined_among, looked_up, definiti
 use Rattle.kn_rules.specs.States.{IsDefinedWithin}
 use Rattle.kn_rules.specs.Grids.{is_root}
 use Rattle.kn_rules.specs.Marks.{AssumedLiterals}
+use Rattle.kn_rules.specs.Causes.{unknown_variable}
 use Rattle.kn_rules.specs.Steps.{are_known, follow, is_known_variable, is_known_arm, by_definition, definition_clauses, define, count, deleted}
 use Rattle.kn_rules.specs.Entries.{Entered}
 use Rattle.kn_rules.proofs.Deleting.{deleted-still}
@@ -33,7 +34,7 @@ file-within vars (c ∷ cs) h = (h.0.within, file-within vars cs h.1)
 pub clause-within : (vars : ℕ) (given : List Given) (o : Origin) (lits : List Literal) → AreLiveWithin vars given → AreKnown vars lits → AreLiveWithin vars (given ++ (record { origin = o; live = Some (clause lits) }) ∷ [])
 clause-within vars given o lits h k = All-push (IsLiveWithin vars) given (record { origin = o; live = Some (clause lits) }) h (record { guard = tt; lits = k })
 
-known-if : (b : Bool) (r : Result ProofState ℕ) → IsOk (cond b r (Err 3)) → b ≡ true
+known-if : (b : Bool) (r : Result ProofState ℕ) → IsOk (cond b r (Err unknown_variable)) → b ≡ true
 known-if true r ok = refl
 known-if false r ok = ok
 

@@ -21,6 +21,7 @@ use Rattle.kn_rules.specs.declared.given.Given.{Given}
 use Rattle.kn_rules.specs.declared.given.Origin.{Origin}
 use Rattle.kn_rules.specs.declared.given.Origin.TheVariants as origin
 use Rattle.kn_rules.specs.States.{ProofState, start, from_file, definition_of, given_at, live_at, IsLiveWithin, AreLiveWithin}
+use Rattle.kn_rules.specs.Causes.{unknown_variable, no_conflict}
 use Rattle.kn_rules.specs.Steps.{are_known, hinted, is_conflict, is_empty, with_clause, if_conflict, follow, deleted, with_given, with_one, is_known_variable, is_known_arm, next_variable, definition_clauses, with_definition, define, are_different, is_unit, unit_of, if_unit, count, if_klause, unfold_klause, step}
 use Rattle.kn_rules.specs.Grids.{is_root}
 use Rattle.kn_rules.specs.Proofs.{Runs, StepsThrough, IsProof}
@@ -131,7 +132,7 @@ clause-agrees values s o lits h k w =
 conflict-agrees : (values : List Bool) (s : ProofState) (o : Origin) (lits : List Literal) (hints : Option (List Bounded)) → Agrees values s → AreKnown s.vars lits → IfSome hints (AllByRecursion (Holds values)) → IfOk (if_conflict s o lits hints) (Agrees values)
 conflict-agrees values s o lits None h w k = tt
 conflict-agrees values s o lits (Some hints) h w k =
-    cond_both (is_conflict lits hints) (Ok (with_clause s o lits)) (Err 5) (λ r. IfOk r (Agrees values))
+    cond_both (is_conflict lits hints) (Ok (with_clause s o lits)) (Err no_conflict) (λ r. IfOk r (Agrees values))
     (λ e. elim (all_false_or_one_true values lits) [
       | inl all ↦ absurd (none-goes_on values _ (run-goes_on values hints (map negated lits) all k) e)
       | inr one ↦ clause-agrees values s o lits h one w
@@ -140,7 +141,7 @@ conflict-agrees values s o lits (Some hints) h w k =
 
 follow-agrees : (values : List Bool) (s : ProofState) (o : Origin) (lits : List Literal) (hints : List ℕ) → Agrees values s → IfOk (follow s o lits hints) (Agrees values)
 follow-agrees values s o lits hints h =
-    cond_both (are_known s.vars lits) (if_conflict s o lits (hinted s.given hints)) (Err 3) (λ r. IfOk r (Agrees values))
+    cond_both (are_known s.vars lits) (if_conflict s o lits (hinted s.given hints)) (Err unknown_variable) (λ r. IfOk r (Agrees values))
     (λ e. conflict-agrees values s o lits (hinted s.given hints) h (known-test s.vars lits e) (hinted-hold values s.given hints h.live))
     (λ _. tt)
 
@@ -178,7 +179,7 @@ unit-agrees values s bound lits root (Some unit) h w k =
 
 count-agrees : (values : List Bool) (s : ProofState) (bound : ℕ) (lits : List Literal) (root unit : ℕ) → Agrees values s → IfOk (count s bound lits root unit) (Agrees values)
 count-agrees values s bound lits root unit h =
-    cond_both (are_known s.vars lits && is_known_variable s.vars root) _ (Err 3) (λ r. IfOk r (Agrees values))
+    cond_both (are_known s.vars lits && is_known_variable s.vars root) _ (Err unknown_variable) (λ r. IfOk r (Agrees values))
     (λ e.
     let parts = and_parts (are_known s.vars lits) (is_known_variable s.vars root) e in
     unit-agrees values s bound lits root (live_at s.given unit) h (known-test s.vars lits parts.0) (live_at-holds values s.given unit h.live))
@@ -197,7 +198,7 @@ klause-agrees values s root (Some c) h w k =
 
 unfold-agrees : (values : List Bool) (s : ProofState) (id root : ℕ) → Agrees values s → IfOk (unfold_klause s id root) (Agrees values)
 unfold-agrees values s id root h =
-    cond_both (is_known_variable s.vars root) _ (Err 3) (λ r. IfOk r (Agrees values))
+    cond_both (is_known_variable s.vars root) _ (Err unknown_variable) (λ r. IfOk r (Agrees values))
     (λ e. klause-agrees values s root (live_at s.given id) h (known-variable s.vars root e) (live_at-holds values s.given id h.live))
     (λ _. tt)
 
@@ -248,7 +249,7 @@ definition-agrees values s x high low h w =
 
 define-extends : (values : List Bool) (s : ProofState) (x : Literal) (high low : Arm) → Agrees values s → IfOk (define s x high low) (Extends values)
 define-extends values s x high low h =
-    cond_both (is_known_variable s.vars x.variable && (is_known_arm s.vars high && is_known_arm s.vars low)) (Ok (with_definition s x high low)) (Err 3) (λ r. IfOk r (Extends values))
+    cond_both (is_known_variable s.vars x.variable && (is_known_arm s.vars high && is_known_arm s.vars low)) (Ok (with_definition s x high low)) (Err unknown_variable) (λ r. IfOk r (Extends values))
     (λ e. (defined_value values (record { test = x; high = high; low = low }) ∷ [], definition-agrees values s x high low h (defined-known s.vars x high low e)))
     (λ _. tt)
 

@@ -14,6 +14,7 @@ use Rattle.kn_rules.specs.declared.given.Origin.{Origin}
 use Rattle.kn_rules.specs.declared.given.Origin.TheVariants as origin
 use Rattle.kn_rules.specs.Grids.{is_root}
 use Rattle.kn_rules.specs.States.{ProofState, defined_among, definition_of, given_at, live_at}
+use Rattle.kn_rules.specs.Causes.{wrong_unit, wrong_root}
 use Rattle.kn_rules.specs.Steps.{hinted, with_clause, if_conflict, follow, with_given, with_one, is_known_variable, is_known_arm, with_definition, define, are_known, are_different, is_unit, unit_of, if_unit, count, if_klause, unfold_klause, deleted, step}
 use Rattle.kn_rules.specs.Stepping.{StepsBy, is_definition, is_lemma, is_deletion, learned_in, deletions_in}
 use Rattle.kn_rules.specs.Searching.{Allows, SearchesBy, HasNoLemma}
@@ -45,8 +46,8 @@ unit-gives : (s t : ProofState) (bound : ℕ) (lits : List Literal) (root : ℕ)
 unit-gives s t bound lits root None e = absurd cc
 unit-gives s t bound lits root (Some unit) e =
     let last : Result ProofState ℕ = Ok (with_one s origin.Klause (klause bound lits)) in
-    let third : Result ProofState ℕ = cond (not (is_unit unit root)) (Err 6) last in
-    let second : Result ProofState ℕ = cond (not (is_root (definition_of s) lits bound root)) (Err 7) third in
+    let third : Result ProofState ℕ = cond (not (is_unit unit root)) (Err wrong_unit) last in
+    let second : Result ProofState ℕ = cond (not (is_root (definition_of s) lits bound root)) (Err wrong_root) third in
     sym (same_ok _ t (unless-ok (not (is_unit unit root)) last 6 t (unless-ok (not (is_root (definition_of s) lits bound root)) third 7 t (unless-ok (not (are_different lits)) second 8 t e))))
 
 pub count-gives : (s t : ProofState) (bound : ℕ) (lits : List Literal) (root unit : ℕ) → count s bound lits root unit ≡ Ok t → t ≡ with_one s origin.Klause (klause bound lits)
@@ -56,7 +57,7 @@ klause-gives : (s t : ProofState) (root : ℕ) (c : Option Bounded) → if_klaus
 klause-gives s t root None e = absurd cc
 klause-gives s t root (Some c) e =
     let last : Result ProofState ℕ = Ok (with_one s origin.Unfolding (unit_of root)) in
-    let second : Result ProofState ℕ = cond (not (is_root (definition_of s) c.lits c.bound root)) (Err 7) last in
+    let second : Result ProofState ℕ = cond (not (is_root (definition_of s) c.lits c.bound root)) (Err wrong_root) last in
     sym (same_ok _ t (unless-ok (not (is_root (definition_of s) c.lits c.bound root)) last 7 t (unless-ok (not (is_none c.guard && are_different c.lits)) second 8 t e)))
 
 pub unfold-gives : (s t : ProofState) (id root : ℕ) → unfold_klause s id root ≡ Ok t → t ≡ with_one s origin.Unfolding (unit_of root)

@@ -14,6 +14,7 @@ use Rattle.kn_rules.specs.declared.made.Place.TheVariants.{High, Low, NotHigh, N
 use Rattle.kn_rules.specs.declared.slot.Slot.{Slot}
 use Rattle.kn_rules.specs.declared.slot.Slot.TheVariants.{Kept, Derived, Deleted}
 use Rattle.kn_rules.specs.States.{Defined}
+use Rattle.kn_rules.specs.Causes.{not_live}
 use Rattle.kn_rules.specs.Steps.{with_arm, opposite}
 
 -- the definitions, and what the ids stand for
@@ -66,5 +67,5 @@ derived number = Derived High number ∷ Derived Low number ∷ Derived NotHigh 
 -- the ids are deleted, or one of them was not live when its turn came, or memory was wanting
 abbrev pub Deletes : {E : Type 0} → Result Bool E → Result (List Given) ℕ → Entered → Entered → Type 0
 Deletes (Ok true) after old new = (after ≡ Ok new.given) × (new.defined ≡ old.defined)
-Deletes (Ok false) after old new = (after ≡ Err 4) × (new ≡ old)
+Deletes (Ok false) after old new = (after ≡ Err not_live) × (new ≡ old)
 Deletes (Err e) after old new = new ≡ old

@@ -1,5 +1,6 @@
 pub mod States
 pub mod Grids
+pub mod Causes
 pub mod Steps
 pub mod Stepping
 pub mod Proofs

@@ -7,6 +7,7 @@ use Rattle.kn_lines.specs.Lines.{SpellsWords}
 use Rattle.kn_lines.specs.declared.line.Line.{Line}
 use Rattle.kn_lines.specs.declared.line.Line.TheVariants.{Header}
 use Rattle.kn_rules.specs.States.{ProofState, start}
+use Rattle.kn_rules.specs.Causes.{wrong_header, bad_line, not_refuted}
 use Rattle.kn_rules.specs.Steps.{step}
 
 -- the line of the text is one of a proof, and steps from the one state to the other
@@ -42,22 +43,20 @@ pub record Fault : Type 0 where
 abbrev pub fault : ℕ → ℕ → Fault
 fault line cause = record { line = line; cause = cause }
 
--- The first line that does not step, and its cause:
---   2  the line is none of a proof's
---   9  all lines step, and none gave the clause without literals; told with the number of lines
--- and those of a step.
+-- The first line that is none of a proof's or does not step, and its cause; or the number of lines, where all step and
+-- none gave the clause without literals.
 abbrev pub WrongFrom : ProofState → List TextLine → ℕ → Fault → Type 0
-WrongFrom s [] count found = (s.refuted ≡ false) × (found ≡ fault count 9)
+WrongFrom s [] count found = (s.refuted ≡ false) × (found ≡ fault count not_refuted)
 WrongFrom s (text ∷ texts) count found =
-    (((line : Line) → SpellsWords text.words line → ⊥) × (found ≡ fault text.number 2))
+    (((line : Line) → SpellsWords text.words line → ⊥) × (found ≡ fault text.number bad_line))
     ⊎ ((line : Line) × SpellsWords text.words line × (step s line ≡ Err found.cause) × (found.line ≡ text.number))
     ⊎ ((next : ProofState) × Makes s text next × WrongFrom next texts count found)
 
--- 1: the first line is not the header with the numbers of the formula
+-- the same, where the first line is to be the header with the numbers of the formula
 abbrev pub WrongIn : Problem → List TextLine → ℕ → Fault → Type 0
-WrongIn f [] count found = found ≡ fault count 9
+WrongIn f [] count found = found ≡ fault count not_refuted
 WrongIn f (text ∷ texts) count found =
-    ((IsHeader f text → ⊥) × (found ≡ fault text.number 1))
+    ((IsHeader f text → ⊥) × (found ≡ fault text.number wrong_header))
     ⊎ (IsHeader f text × WrongFrom (start f) texts count found)
 
 -- the first fault of a text that is no proof for the formula

@@ -3,6 +3,7 @@ use Rattle.std.specs.Prelude.{ℕ, ◌-◌, ◌==◌, if◌then◌else◌, List,
 use Rattle.std.specs.Option.{is_none}
 use Rattle.kn_rules.specs.declared.slot.Slot.{Slot}
 use Rattle.kn_rules.specs.declared.slot.Slot.TheVariants.{Kept, Derived, Deleted}
+use Rattle.kn_rules.specs.Causes.{not_live}
 use Rattle.kn_rules.specs.Entries.{origin_of}
 
 -- a slot that is not deleted
@@ -23,7 +24,7 @@ without_slot slots id (Some slot) = slice_set slots (id - 1) (Deleted (origin_of
 -- Each id is deleted where it is live when its turn comes.
 abbrev pub deleted_slots : List Slot → List ℕ → Result (List Slot) ℕ
 deleted_slots slots [] = Ok slots
-deleted_slots slots (id ∷ ids) = if is_none (slot_at slots id) then Err 4 else deleted_slots (without_slot slots id (slot_at slots id)) ids
+deleted_slots slots (id ∷ ids) = if is_none (slot_at slots id) then Err not_live else deleted_slots (without_slot slots id (slot_at slots id)) ids
 
 -- the slots with one under an id, where the id was given
 abbrev pub put : List Slot → ℕ → Slot → List Slot

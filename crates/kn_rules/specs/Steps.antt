@@ -1,12 +1,5 @@
 -- What each kind of line asks of the state, and what it makes of it. A line that steps gives the next
--- state; for any other there is a cause, the first in the order in which they are tested:
---   1  a header that is not the first line
---   3  a variable of the line is not known
---   4  an id of the line is not live
---   5  the run of hints does not end in conflict
---   6  the constraint of a klause's unit is not the clause of the root alone
---   7  the root does not stand for the grid of the klause
---   8  the klause names a variable twice, or the constraint that is unfolded does so or has a guard
+-- state; for any other there is a cause, the first in the order in which they are tested.
 use Rattle.std.specs.Prelude.{ℕ, ◌+◌, ◌-◌, ◌++◌, ◌∷◌, nat_le, Bool, true, false, not, ◌&&◌, ◌||◌, if◌then◌else◌, List, [], map, Option, Some, None, Result, Ok, Err, option_map, option_and_then, slice_set}
 use Rattle.std.specs.List.{list_all}
 use Rattle.std.specs.Option.{is_none}
@@ -22,6 +15,7 @@ use Rattle.kn_rules.specs.declared.given.Origin.TheVariants as origin
 use Rattle.kn_rules.specs.declared.given.Given.{Given}
 use Rattle.kn_rules.specs.States.{ProofState, definition_of, given_at, live_at}
 use Rattle.kn_rules.specs.Grids.{is_root}
+use Rattle.kn_rules.specs.Causes.{wrong_header, unknown_variable, not_live, no_conflict, wrong_unit, wrong_root, not_plain}
 
 -- whether the variables of all literals are known
 abbrev pub are_known : ℕ → List Literal → Bool
@@ -48,13 +42,13 @@ with_clause s origin lits = record s {
 }
 
 abbrev pub if_conflict : ProofState → Origin → List Literal → Option (List Bounded) → Result ProofState ℕ
-if_conflict s origin lits None = Err 4
-if_conflict s origin lits (Some hints) = if is_conflict lits hints then Ok (with_clause s origin lits) else Err 5
+if_conflict s origin lits None = Err not_live
+if_conflict s origin lits (Some hints) = if is_conflict lits hints then Ok (with_clause s origin lits) else Err no_conflict
 
 -- A clause follows by its hints where its variables are known, all hints are live, and their run from
 -- the negations of its literals ends in conflict.
 abbrev pub follow : ProofState → Origin → List Literal → List ℕ → Result ProofState ℕ
-follow s origin lits hints = if are_known s.vars lits then if_conflict s origin lits (hinted s.given hints) else Err 3
+follow s origin lits hints = if are_known s.vars lits then if_conflict s origin lits (hinted s.given hints) else Err unknown_variable
 
 -- the entries with that of an id deleted
 abbrev pub without : List Given → ℕ → Option Given → List Given
@@ -64,7 +58,7 @@ without given id (Some entry) = slice_set given (id - 1) (record entry { live = 
 -- Each id is deleted where it is live when its turn comes.
 abbrev pub deleted : List Given → List ℕ → Result (List Given) ℕ
 deleted given [] = Ok given
-deleted given (id ∷ ids) = if is_none (live_at given id) then Err 4 else deleted (without given id (given_at given id)) ids
+deleted given (id ∷ ids) = if is_none (live_at given id) then Err not_live else deleted (without given id (given_at given id)) ids
 
 abbrev pub with_given : ProofState → Result (List Given) ℕ → Result ProofState ℕ
 with_given s (Ok given) = Ok (record s { given = given })
@@ -118,7 +112,7 @@ with_definition s x high low = record s {
 
 abbrev pub define : ProofState → Literal → Arm → Arm → Result ProofState ℕ
 define s x high low =
-    if is_known_variable s.vars x.variable && (is_known_arm s.vars high && is_known_arm s.vars low) then Ok (with_definition s x high low) else Err 3
+    if is_known_variable s.vars x.variable && (is_known_arm s.vars high && is_known_arm s.vars low) then Ok (with_definition s x high low) else Err unknown_variable
 
 -- klauses and their grids
 
@@ -139,31 +133,31 @@ abbrev pub unit_of : ℕ → Bounded
 unit_of variable = clause ((record { variable = variable; positive = true }) ∷ [])
 
 abbrev pub if_unit : ProofState → ℕ → List Literal → ℕ → Option Bounded → Result ProofState ℕ
-if_unit s bound lits root None = Err 4
+if_unit s bound lits root None = Err not_live
 if_unit s bound lits root (Some unit) =
-    if not (are_different lits) then Err 8
-    else if not (is_root (definition_of s) lits bound root) then Err 7
-    else if not (is_unit unit root) then Err 6
+    if not (are_different lits) then Err not_plain
+    else if not (is_root (definition_of s) lits bound root) then Err wrong_root
+    else if not (is_unit unit root) then Err wrong_unit
     else Ok (with_one s origin.Klause (klause bound lits))
 
 -- A klause holds where a unit clause says so of the root of its grid.
 abbrev pub count : ProofState → ℕ → List Literal → ℕ → ℕ → Result ProofState ℕ
 count s bound lits root unit =
-    if are_known s.vars lits && is_known_variable s.vars root then if_unit s bound lits root (live_at s.given unit) else Err 3
+    if are_known s.vars lits && is_known_variable s.vars root then if_unit s bound lits root (live_at s.given unit) else Err unknown_variable
 
 abbrev pub if_klause : ProofState → ℕ → Option Bounded → Result ProofState ℕ
-if_klause s root None = Err 4
+if_klause s root None = Err not_live
 if_klause s root (Some c) =
-    if not (is_none c.guard && are_different c.lits) then Err 8
-    else if not (is_root (definition_of s) c.lits c.bound root) then Err 7
+    if not (is_none c.guard && are_different c.lits) then Err not_plain
+    else if not (is_root (definition_of s) c.lits c.bound root) then Err wrong_root
     else Ok (with_one s origin.Unfolding (unit_of root))
 
 -- The root of a klause's grid is true where the klause holds.
 abbrev pub unfold_klause : ProofState → ℕ → ℕ → Result ProofState ℕ
-unfold_klause s id root = if is_known_variable s.vars root then if_klause s root (live_at s.given id) else Err 3
+unfold_klause s id root = if is_known_variable s.vars root then if_klause s root (live_at s.given id) else Err unknown_variable
 
 abbrev pub step : ProofState → Line → Result ProofState ℕ
-step s (Header vars constraints) = Err 1
+step s (Header vars constraints) = Err wrong_header
 step s (Define x high low) = define s x high low
 step s (Lemma c hints) = follow s origin.Lemma c.lits hints
 step s (Learned c hints) = follow s origin.Learned c.lits hints

@@ -3,6 +3,7 @@ ghost use Rattle.std.specs.Prelude.{◌≡◌, ◌≤◌, ◌<◌, ◌+◌, ◌+
 ghost use Rattle.kn_logic.specs.Constraints.{IsWithin};
 ghost use Rattle.kn_lines.specs.Lines.{IsWellFormed};
 ghost use Rattle.kn_rules.specs.States.{start, live_at};
+ghost use Rattle.kn_rules.specs.Causes.{not_refuted};
 ghost use Rattle.kn_rules.specs.Steps.{define, next_variable, step};
 ghost use Rattle.kn_rules.specs.Feeding.{Feeds};
 ghost use Rattle.kn_rules.specs.Lent.{four_of};
@@ -21,9 +22,7 @@ use std::marker::Model;
 /// Why a line was not taken.
 #[derive(Clone, Copy, Debug, PartialEq, Eq)]
 pub enum FeedError {
-    /// The line does not step: 1 a header behind the first line, 3 an unknown variable, 4 an id that is
-    /// not live, 5 hints without a conflict, 6 a unit clause that is not the root's, 7 a root that does not
-    /// stand for the grid, 8 a klause that names a variable twice or, where it is unfolded, has a guard.
+    /// The line does not step, for this cause of those in `cause`. It is never `BAD_LINE` or `NOT_REFUTED`.
     Wrong(u8),
     /// Want of memory.
     Memory,
@@ -133,10 +132,10 @@ impl Checker {
         self.machine.accept(line)
     }
 
-    /// Whether the lines so far are a whole proof: `Err` holds the cause 9 exactly where none of them gave
-    /// the clause without literals.
+    /// Whether the lines so far are a whole proof: `Err` holds `cause::NOT_REFUTED` exactly where none of them
+    /// gave the clause without literals.
     pub fn finish(&self) -> Result<(), u8>
-        ensures { result ≡ (if self.now.refuted then Ok tt else Err 9) }
+        ensures { result ≡ (if self.now.refuted then Ok tt else Err not_refuted) }
     {
         self.machine.finish()
     }

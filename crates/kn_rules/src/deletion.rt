@@ -1,5 +1,6 @@
 //! Deleting the ids of a line one after another, so that one named twice is a fault; the others are put back then.
 ghost use Rattle.std.specs.Prelude.{◌≡◌, ◌≤◌, [], Ok, Err, true, false, IfSome, IfNone, IsOk, length, vec_capacity};
+ghost use Rattle.kn_rules.specs.Causes.{not_live};
 ghost use Rattle.kn_rules.specs.Restoring.{slot_at, without_slot, deleted_slots, put, restored};
 
 use crate::slot::Slot;
@@ -11,7 +12,7 @@ pub fn take_out(slots: &mut [Slot], ids: &[u64], taken: &mut Vec<Slot>) -> bool
     requires empty { taken.old.items ≡ [] }
     requires room { length ids.now ≤ vec_capacity taken.old }
     ensures all { result ≡ true → deleted_slots slots.old ids.now ≡ Ok slots.new }
-    ensures wrong { result ≡ false → deleted_slots slots.old ids.now ≡ Err 4 }
+    ensures wrong { result ≡ false → deleted_slots slots.old ids.now ≡ Err not_live }
     ensures back { restored slots.new ids.now taken.new.items ≡ slots.old }
     ensures count { length taken.new.items ≤ length ids.now }
 {

@@ -4,6 +4,7 @@ ghost use Rattle.kn_logic.specs.Constraints.{clause, klause, IsWithin};
 ghost use Rattle.kn_lines.specs.Lines.{IsWellFormed};
 ghost use Rattle.kn_rules.specs.States.{start, definition_of, live_at};
 ghost use Rattle.kn_rules.specs.Grids.{is_root};
+ghost use Rattle.kn_rules.specs.Causes.{not_refuted};
 ghost use Rattle.kn_rules.specs.Steps.{follow, deleted, with_given, with_one, define, count, unfold_klause, step};
 ghost use Rattle.kn_rules.specs.Feeding.{Feeds};
 ghost use Rattle.kn_rules.specs.Lent.{defined_of, fours};
@@ -15,7 +16,7 @@ use crate::four::Four;
 use crate::grid::is_root;
 use crate::hints::follows;
 use crate::known::{are_different, are_known, is_known, is_known_arm, is_plain};
-use crate::{Definition, FeedError, Origin};
+use crate::{Definition, FeedError, Origin, cause};
 use kn_lines::{Arm, Line};
 use kn_logic::{Constraint, Formula, Lit, NoMemory};
 use std::alloc::Global;
@@ -65,7 +66,7 @@ impl Machine {
         ensures { Feeds result (step self.old line.now) self.old self.new }
     {
         match line {
-            Line::Header { .. } => Err(FeedError::Wrong(1)),
+            Line::Header { .. } => Err(FeedError::Wrong(cause::WRONG_HEADER)),
             Line::Define { x, high, low } => self.define(*x, *high, *low),
             Line::Lemma { clause, hints } => self.follow(Origin::Lemma, clause.lits(), hints.ids()),
             Line::Learned { clause, hints } => self.follow(
@@ -101,12 +102,16 @@ impl Machine {
         }
     }
 
-    /// Whether the lines so far are a whole proof: `Err` holds the cause 9 exactly where none of them gave
+    /// Whether the lines so far are a whole proof: `Err` holds `NOT_REFUTED` exactly where none of them gave
     /// the clause without literals.
     pub fn finish(&self) -> Result<(), u8>
-        ensures { result ≡ (if self.now.refuted then Ok tt else Err 9) }
+        ensures { result ≡ (if self.now.refuted then Ok tt else Err not_refuted) }
     {
-        if self.refuted { Ok(()) } else { Err(9) }
+        if self.refuted {
+            Ok(())
+        } else {
+            Err(cause::NOT_REFUTED)
+        }
     }
 
     /// The number of known variables. Each definition is that of one of them.
@@ -153,12 +158,12 @@ impl Machine {
         ensures { Feeds result (follow self.old origin lits.now hints.now) self.old self.new }
     {
         if !are_known(self.vars, lits) {
-            return Err(FeedError::Wrong(3));
+            return Err(FeedError::Wrong(cause::UNKNOWN_VARIABLE));
         }
         match follows(&mut self.assumed, &self.entries, lits, hints)? {
             Some(true) => {}
-            Some(false) => return Err(FeedError::Wrong(5)),
-            None => return Err(FeedError::Wrong(4)),
+            Some(false) => return Err(FeedError::Wrong(cause::NO_CONFLICT)),
+            None => return Err(FeedError::Wrong(cause::NOT_LIVE)),
         }
         let clause = constraint_of(self.alloc, 1, lits)?;
         self.entries.push(origin, clause)?;
@@ -186,7 +191,7 @@ impl Machine {
             || !is_known_arm(self.vars, &high)
             || !is_known_arm(self.vars, &low)
         {
-            return Err(FeedError::Wrong(3));
+            return Err(FeedError::Wrong(cause::UNKNOWN_VARIABLE));
         }
         self.keep_definition(x, high, low)?;
         Ok(())
@@ -212,20 +217,20 @@ impl Machine {
         ensures { Feeds result (count self.old c.now.bound c.now.lits root unit) self.old self.new }
     {
         if !are_known(self.vars, c.lits()) || !is_known(self.vars, root) {
-            return Err(FeedError::Wrong(3));
+            return Err(FeedError::Wrong(cause::UNKNOWN_VARIABLE));
         }
         let Some(unit) = self.entries.find(unit) else {
-            return Err(FeedError::Wrong(4))
+            return Err(FeedError::Wrong(cause::NOT_LIVE))
         };
         let says_root = is_unit(&unit, root);
         if !are_different(&mut self.assumed, c.lits())? {
-            return Err(FeedError::Wrong(8));
+            return Err(FeedError::Wrong(cause::NOT_PLAIN));
         }
         if !self.is_root(c.lits(), c.bound(), root)? {
-            return Err(FeedError::Wrong(7));
+            return Err(FeedError::Wrong(cause::WRONG_ROOT));
         }
         if !says_root {
-            return Err(FeedError::Wrong(6));
+            return Err(FeedError::Wrong(cause::WRONG_UNIT));
         }
         self.give(Origin::Klause, c.copy()?)?;
         Ok(())
@@ -245,15 +250,15 @@ impl Machine {
         ensures { Feeds result (unfold_klause self.old id root) self.old self.new }
     {
         if !is_known(self.vars, root) {
-            return Err(FeedError::Wrong(3));
+            return Err(FeedError::Wrong(cause::UNKNOWN_VARIABLE));
         }
         match is_plain(&mut self.assumed, &self.entries, id)? {
             Some(true) => {}
-            Some(false) => return Err(FeedError::Wrong(8)),
-            None => return Err(FeedError::Wrong(4)),
+            Some(false) => return Err(FeedError::Wrong(cause::NOT_PLAIN)),
+            None => return Err(FeedError::Wrong(cause::NOT_LIVE)),
         }
         if !self.is_root_of(id, root)? {
-            return Err(FeedError::Wrong(7));
+            return Err(FeedError::Wrong(cause::WRONG_ROOT));
         }
         self.keep_root(id, root)?;
         Ok(())
@@ -309,7 +314,7 @@ impl Machine {
         ensures { Feeds result (with_given self.old (deleted self.old.given ids.now)) self.old self.new }
     {
         if !self.entries.delete(ids)? {
-            return Err(FeedError::Wrong(4));
+            return Err(FeedError::Wrong(cause::NOT_LIVE));
         }
         Ok(())
     }

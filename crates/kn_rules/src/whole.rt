@@ -7,8 +7,8 @@ ghost use Rattle.kn_lines.specs.declared.line.Line.TheVariants.{Header};
 ghost use Rattle.kn_rules.specs.Proofs.{IsProof, IsFirstWrong, WrongFrom};
 ghost use Rattle.kn_rules.specs.Checking.{IfVerified, IfFault, EndsRefuted, Takes, BeginsFilled};
 
-use crate::FeedError;
 use crate::machine::Machine;
+use crate::{FeedError, cause};
 use kn_lines::{Line, LineError, read_line};
 use kn_logic::{Formula, NoMemory};
 use kn_text::{first_line, is_skipped};
@@ -19,11 +19,8 @@ use std::alloc::{AllocError, Global};
 pub enum Checked {
     /// All lines step, and one of them gave the clause without literals.
     Verified,
-    /// The first line that does not step, counted from 1, and the cause: 1 it is not where and what the
-    /// header is to be, 2 it is no line of a proof, 3 an unknown variable, 4 an id that is not live,
-    /// 5 hints without a conflict, 6 a unit clause that is not the root's, 7 a root that does not stand for
-    /// the grid, 8 a klause that names a variable twice or, where it is unfolded, has a guard. Cause 9 is told with the number of lines: all lines step, and none
-    /// gave the clause without literals.
+    /// The first line that does not step, counted from 1, and the cause, one of those in `cause`; where all lines
+    /// step and none gave the clause without literals, their number and `NOT_REFUTED`.
     NotVerified { line: u64, why: u8 },
 }
 
@@ -48,13 +45,13 @@ fn answer(alloc: Global, f: &Formula, bytes: &[u8]) -> Result<Checked, NoMemory>
     let Some((line, behind)) = first_line(rest) else {
         return Ok(Checked::NotVerified {
             line: passed,
-            why: 9,
+            why: cause::NOT_REFUTED,
         });
     };
     if !is_header(alloc, f, line)? {
         return Ok(Checked::NotVerified {
             line: passed + 1,
-            why: 1,
+            why: cause::WRONG_HEADER,
         });
     }
     let mut machine = Machine::new(alloc, f)?;
@@ -129,7 +126,7 @@ fn take_line(alloc: Global, machine: &mut Machine, text: &[u8]) -> Result<(), Fe
     match read_line(alloc, text) {
         Ok(Some(line)) => machine.feed(&line),
         Ok(None) => Ok(()),
-        Err(LineError::Bad) => Err(FeedError::Wrong(2)),
+        Err(LineError::Bad) => Err(FeedError::Wrong(cause::BAD_LINE)),
         Err(LineError::Memory) => Err(FeedError::Memory),
     }
 }

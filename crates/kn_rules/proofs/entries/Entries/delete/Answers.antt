@@ -1,6 +1,7 @@
 use Rattle.std.proofs.Common.{◌≡◌, List, Ok, Err, length, map, sym, ap, subst, ◌∙◌, rules}
 use Rattle.std.specs.List.{AllByRecursion}
 use Rattle.kn_rules.specs.declared.slot.Slot.{Slot}
+use Rattle.kn_rules.specs.Causes.{not_live}
 use Rattle.kn_rules.specs.Steps.{deleted}
 use Rattle.kn_rules.specs.Entries.{Entered, IsSlotOf, given_of}
 use Rattle.kn_rules.specs.Restoring.{deleted_slots, restored}
@@ -26,7 +27,7 @@ returns-then-take_out c =
 pub returns : goal.returns
 returns c =
     let len : length c.take_out.new.slots ≡ c.self.inside.slots.len = search rules in
-    let stuck : deleted_slots c.self.inside.slots.items c.args.ids.now ≡ Err 4 = search rules in
+    let stuck : deleted_slots c.self.inside.slots.items c.args.ids.now ≡ Err not_live = search rules in
     let value = c.deref_mut-2.ensures.value ∙ written _ c.self.inside.slots.items _ len in
     let same : c.put_back.new.slots ≡ c.self.inside.slots.items = c.put_back.ensures ∙ ap (λ (s : List Slot). restored s c.args.ids.now c.take_out.new.taken.items) value ∙ c.take_out.ensures.back ∙ c.deref_mut.ensures.value in
     let len-2 : length c.put_back.new.slots ≡ c.self.inside.slots.len = search rules in (
