@@ -27,12 +27,12 @@ pub record AreConstraints (h : Header) (count : ℕ) (words : List (List ℕ)) :
 abbrev pub CanGoOn : Header → List (List ℕ) → Type 0
 CanGoOn h words = (behind : List (List ℕ)) × AreConstraints h h.count (words ++ behind)
 
--- Where there is a `q`, there is a variable for its guard.
+-- Behind a `q` a guard can follow: there is a variable for it. A `cnf` text has no `q`.
 abbrev pub HasGuards : Header → Type 0
 HasGuards h = (h.format ≡ Cnf) ⊎ (1 ≤ h.vars)
 
--- A word of the line of this number is the first with which the words cannot go on; and its line does not
--- end the constraints.
+-- A word of the line of this number is the first with which the words of the constraints cannot go on; and
+-- its line is none that ends them.
 pub record IsFirstWrong (h : Header) (lines : List Line) (number : ℕ) : Type 0 where
   pub before : List Line
   pub line : Line

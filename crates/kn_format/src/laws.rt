@@ -30,7 +30,8 @@ pub fn a_first_fault_leaves_no_formula()
         fault.why ≡ missing_constraint → (fault.line ≡ length (lines_of bytes)) × AreTooFew h (words_in lines) }
 {}
 
-/// And there alone: a text whose words leave no formula in one of these ways has its first fault there.
+/// Conversely, a text with a well formed problem line whose words leave no formula in one of these ways has
+/// its first fault there.
 pub fn what_leaves_no_formula_is_the_first_fault()
     ensures word { (bytes : List ℕ) (h : Header) (lines : List Line) (number : ℕ) → HasHeader bytes h lines → HasGuards h →
         IsFirstWrong h lines number → (why : ℕ) × (why ≤ extra_constraint) × IsFirstFault bytes (refusal number why) }
