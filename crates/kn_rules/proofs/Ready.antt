@@ -1,5 +1,5 @@
 -- What a checker keeps between two lines.
-use Rattle.std.proofs.Common.{◌≡◌, ℕ, ◌+◌, ◌-◌, ◌≤◌, ◌++◌, ◌&&◌, Bool, true, false, cond, leb, List, [], ◌∷◌, length, length-append, map, Some, Result, Ok, Err, IsOk, IfOk, refl, sym, ap, ◌∙◌, subst, arith}
+use Rattle.std.proofs.Common.{◌≡◌, ℕ, ◌+◌, ◌-◌, ◌++◌, ◌&&◌, Bool, true, false, cond, leb, List, [], ◌∷◌, length, length-append, map, Some, Result, Ok, Err, IsOk, IfOk, refl, sym, ap, ◌∙◌, subst, arith}
 use Rattle.std.specs.List.{AllByRecursion}
 use Rattle.std.proofs.lemmas.Bool.{and_parts, leb-true}
 use Rattle.kn_logic.proofs.Public.{All-push, All-append}
@@ -31,9 +31,6 @@ pub file-within : (vars : ℕ) (cs : List Bounded) → AllByRecursion (Fits vars
 file-within vars [] h = tt
 file-within vars (c ∷ cs) h = (h.0.within, file-within vars cs h.1)
 
-pub clause-within : (vars : ℕ) (given : List Given) (o : Origin) (lits : List Literal) → AreLiveWithin vars given → AreKnown vars lits → AreLiveWithin vars (given ++ (record { origin = o; live = Some (clause lits) }) ∷ [])
-clause-within vars given o lits h k = All-push (IsLiveWithin vars) given (record { origin = o; live = Some (clause lits) }) h (record { guard = tt; lits = k })
-
 known-if : (b : Bool) (r : Result ProofState ℕ) → IsOk (cond b r (Err unknown_variable)) → b ≡ true
 known-if true r ok = refl
 known-if false r ok = ok
@@ -54,15 +51,6 @@ pub counted-within : (s : ProofState) (c : Bounded) (root unit : ℕ) → c ≡ 
 counted-within s c root unit formed ok =
     let known = known-if (are_known s.vars c.lits && is_known_variable s.vars root) _ ok in
     known-within s.vars c c formed refl (and_parts (are_known s.vars c.lits) (is_known_variable s.vars root) known).0
-
--- entries that are over the variables, and the literals that are assumed as they were
-pub still-ready : (vars : ℕ) (defined : Defined) (given more : List Given) (old new : AssumedLiterals) → IsReady vars defined given old → new ≡ old → AreLiveWithin vars more → IsReady vars defined more new
-still-ready vars defined given more old new h same within = record {
-  empty = ap (λ (a : AssumedLiterals). a.lits) same ∙ h.empty;
-  room = subst (λ (a : AssumedLiterals). vars ≤ a.vars) (sym same) h.room;
-  within = within;
-  count = h.count;
-}
 
 -- one definition more
 pub defined-push : (s : ProofState) (x : Literal) (high low : Arm) (n : ℕ) → IsOk (define s x high low) → n ≡ s.vars → IsDefinedWithin n (record { test = x; high = high; low = low })

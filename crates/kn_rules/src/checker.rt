@@ -9,9 +9,9 @@ ghost use Rattle.kn_rules.specs.Feeding.{Feeds};
 ghost use Rattle.kn_rules.specs.Lent.{four_of};
 ghost use Rattle.kn_rules.specs.declared.checker.FeedError.TheVariants.{Memory};
 
-use crate::Definition;
 use crate::four::Four;
 use crate::machine::Machine;
+use crate::{Definition, cause};
 use kn_lines::{Arm, Line};
 use kn_logic::{Constraint, Formula, Lit, NoMemory};
 use std::alloc::{AllocError, AllocFailed, Global};
@@ -108,14 +108,10 @@ impl Checker {
         requires { IsWellFormed line.now }
         ensures { Feeds result (step self.old line.now) self.old self.new }
     {
-        let Line::Define { x, high, low } = line else {
-            return self.machine.feed(line);
-        };
-        let four = self.next_four(*x, high, low)?;
-        self.kept.reserve(1)?;
-        self.machine.feed(line)?;
-        push_reserved(&mut self.kept, four);
-        Ok(())
+        if let Line::Define { x, high, low } = line {
+            return self.define(*x, *high, *low);
+        }
+        self.machine.feed(line)
     }
 
     /// Takes a line that is known to step, and tests nothing again: no hint is run and no id is looked up
@@ -168,6 +164,16 @@ impl Checker {
         ensures within { IfSome result (λ c. IsWithin self.now.vars c.now) }
     {
         self.machine.lend(&self.kept, id)
+    }
+
+    fn define(&mut self, x: Lit, high: Arm, low: Arm) -> Result<(), FeedError>
+        ensures { Feeds result (define self.old x high low) self.old self.new }
+    {
+        if !self.machine.knows(x, &high, &low) {
+            return Err(FeedError::Wrong(cause::UNKNOWN_VARIABLE));
+        }
+        self.keep_definition(x, high, low)?;
+        Ok(())
     }
 
     /// Takes the line of a definition that is known to step.

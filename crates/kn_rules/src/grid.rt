@@ -1,6 +1,6 @@
 //! Whether definitions spell the grid of a count, by a walk over its levels: of paths through it there are too many.
-ghost use Rattle.std.specs.Prelude.{◌≡◌, ◌≤◌, ◌<◌, ◌^◌, ◌-◌, ◌&&◌, ◌∷◌, ℕ, List, Option, IfOk, length, option_copied, if◌then◌else◌, false};
-ghost use Rattle.kn_logic.specs.Literals.{Literal, is_same};
+ghost use Rattle.std.specs.Prelude.{◌≡◌, ◌≤◌, ◌<◌, ◌-◌, ◌&&◌, ◌∷◌, ℕ, Option, IfOk, if◌then◌else◌, false};
+ghost use Rattle.kn_logic.specs.Literals.{is_same};
 ghost use Rattle.kn_rules.specs.Grids.{stands_for, is_root};
 ghost use Rattle.kn_rules.specs.Demands.{arm_of, all_stand, all_go_on};
 ghost use Rattle.kn_rules.specs.States.{looked_up};

@@ -1,11 +1,11 @@
 //! The state of a proof, and the step of each kind of line. Causes are tested in a fixed order: the first is told.
-ghost use Rattle.std.specs.Prelude.{◌≡◌, ◌≤◌, ◌+◌, ◌^◌, length, Ok, Err, IfOk, IfSome, IsOk, OnOk, OnErr, option_copied, if◌then◌else◌};
+ghost use Rattle.std.specs.Prelude.{◌≡◌, ◌≤◌, ◌+◌, ◌^◌, ◌&&◌, length, Ok, Err, IfOk, IfSome, IsOk, OnOk, OnErr, option_copied, if◌then◌else◌};
 ghost use Rattle.kn_logic.specs.Constraints.{clause, klause, IsWithin};
 ghost use Rattle.kn_lines.specs.Lines.{IsWellFormed};
 ghost use Rattle.kn_rules.specs.States.{start, definition_of, live_at};
 ghost use Rattle.kn_rules.specs.Grids.{is_root};
 ghost use Rattle.kn_rules.specs.Causes.{not_refuted};
-ghost use Rattle.kn_rules.specs.Steps.{follow, deleted, with_given, with_one, define, count, unfold_klause, step};
+ghost use Rattle.kn_rules.specs.Steps.{is_known_variable, is_known_arm, follow, deleted, with_given, with_one, define, count, unfold_klause, step};
 ghost use Rattle.kn_rules.specs.Feeding.{Feeds};
 ghost use Rattle.kn_rules.specs.Lent.{defined_of, fours};
 
@@ -60,7 +60,8 @@ impl Machine {
     }
 
     /// Takes the next line. `Wrong` tells the first cause for which the line does not step; then, and
-    /// where memory is wanting, the state is as before.
+    /// where memory is wanting, the state is as before. A copy is kept, which takes no more memory than it needs: the
+    /// lists of a line that was read have room for more.
     pub fn feed(&mut self, line: &Line) -> Result<(), FeedError>
         requires { IsWellFormed line.now }
         ensures { Feeds result (step self.old line.now) self.old self.new }
@@ -68,12 +69,8 @@ impl Machine {
         match line {
             Line::Header { .. } => Err(FeedError::Wrong(cause::WRONG_HEADER)),
             Line::Define { x, high, low } => self.define(*x, *high, *low),
-            Line::Lemma { clause, hints } => self.follow(Origin::Lemma, clause.lits(), hints.ids()),
-            Line::Learned { clause, hints } => self.follow(
-                Origin::Learned,
-                clause.lits(),
-                hints.ids(),
-            ),
+            Line::Lemma { clause, hints } => self.follow(Origin::Lemma, clause, hints.ids()),
+            Line::Learned { clause, hints } => self.follow(Origin::Learned, clause, hints.ids()),
             Line::Klause { klause, root, unit } => self.count(klause, *root, *unit),
             Line::Unfold { klause, root } => self.unfold(*klause, *root),
             Line::Delete { ids } => self.delete(ids.ids()),
@@ -137,6 +134,15 @@ impl Machine {
         self.entries.definitions().next()
     }
 
+    /// Whether the variables of a definition are known.
+    pub fn knows(&self, test: Lit, high: &Arm, low: &Arm) -> bool
+        ensures { result ≡ (is_known_variable self.now.vars test.variable && (is_known_arm self.now.vars high.now && is_known_arm self.now.vars low.now)) }
+    {
+        is_known(self.vars, test.var())
+            && is_known_arm(self.vars, high)
+            && is_known_arm(self.vars, low)
+    }
+
     /// Whether a clause without literals was given.
     pub fn is_refuted(&self) -> bool
         ensures { result ≡ self.now.refuted }
@@ -154,20 +160,19 @@ impl Machine {
         self.entries.lend(kept, id)
     }
 
-    fn follow(&mut self, origin: Origin, lits: &[Lit], hints: &[u64]) -> Result<(), FeedError>
-        ensures { Feeds result (follow self.old origin lits.now hints.now) self.old self.new }
+    fn follow(&mut self, origin: Origin, c: &Constraint, hints: &[u64]) -> Result<(), FeedError>
+        requires { c.now ≡ clause c.now.lits }
+        ensures { Feeds result (follow self.old origin c.now.lits hints.now) self.old self.new }
     {
-        if !are_known(self.vars, lits) {
+        if !are_known(self.vars, c.lits()) {
             return Err(FeedError::Wrong(cause::UNKNOWN_VARIABLE));
         }
-        match follows(&mut self.assumed, &self.entries, lits, hints)? {
+        match follows(&mut self.assumed, &self.entries, c.lits(), hints)? {
             Some(true) => {}
             Some(false) => return Err(FeedError::Wrong(cause::NO_CONFLICT)),
             None => return Err(FeedError::Wrong(cause::NOT_LIVE)),
         }
-        let clause = constraint_of(self.alloc, 1, lits)?;
-        self.entries.push(origin, clause)?;
-        self.refuted = self.refuted | lits.is_empty();
+        self.keep(origin, c.copy()?, hints)?;
         Ok(())
     }
 
@@ -187,10 +192,7 @@ impl Machine {
     fn define(&mut self, x: Lit, high: Arm, low: Arm) -> Result<(), FeedError>
         ensures { Feeds result (define self.old x high low) self.old self.new }
     {
-        if !is_known(self.vars, x.var())
-            || !is_known_arm(self.vars, &high)
-            || !is_known_arm(self.vars, &low)
-        {
+        if !self.knows(x, &high, &low) {
             return Err(FeedError::Wrong(cause::UNKNOWN_VARIABLE));
         }
         self.keep_definition(x, high, low)?;
@@ -219,10 +221,10 @@ impl Machine {
         if !are_known(self.vars, c.lits()) || !is_known(self.vars, root) {
             return Err(FeedError::Wrong(cause::UNKNOWN_VARIABLE));
         }
-        let Some(unit) = self.entries.find(unit) else {
+        let Some(live) = self.entries.find(unit) else {
             return Err(FeedError::Wrong(cause::NOT_LIVE))
         };
-        let says_root = is_unit(&unit, root);
+        let says_root = is_unit(&live, root);
         if !are_different(&mut self.assumed, c.lits())? {
             return Err(FeedError::Wrong(cause::NOT_PLAIN));
         }
@@ -232,7 +234,7 @@ impl Machine {
         if !says_root {
             return Err(FeedError::Wrong(cause::WRONG_UNIT));
         }
-        self.give(Origin::Klause, c.copy()?)?;
+        self.keep_klause(c.copy()?, root, unit)?;
         Ok(())
     }
 

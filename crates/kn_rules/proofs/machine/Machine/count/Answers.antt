@@ -1,15 +1,10 @@
 use Rattle.std.proofs.Common.{◌≡◌, true, rules}
 use Rattle.kn_rules.specs.Steps.{are_known}
 use Rattle.kn_rules.proofs.Extending.{are_known-more}
-use Rattle.kn_rules.proofs.Ready.{known-test, known-within}
+use Rattle.kn_rules.proofs.Ready.{known-test}
 use Rattle.kn_rules.proofs.machine.Machine.count.Goals as goal
 
 pub are_different-requires-clause-known : goal.are_different-requires-clause-known
 are_different-requires-clause-known c =
     let known : are_known c.self.inside.vars c.args.c.now.lits ≡ true = search rules in
     rw c.lits-2.ensures (are_known-more _ _ c.args.c.now.lits c.self.invariant.room (known-test _ _ known))
-
-pub give-requires : goal.give-requires
-give-requires c =
-    let known : are_known c.self.inside.vars c.args.c.now.lits ≡ true = search rules in
-    known-within c.self.inside.vars c.args.c.now _ c.requires c.in_ok-copy.ensures known
