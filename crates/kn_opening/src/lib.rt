@@ -6,3 +6,6 @@ mod justifying;
 mod opening;
 
 pub use opening::open;
+
+#[cfg(test)]
+mod tests;
