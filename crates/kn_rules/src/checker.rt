@@ -103,7 +103,7 @@ impl Checker {
     }
 
     /// Takes the next line. `Wrong` tells the first cause for which the line does not step; then, and
-    /// where memory is wanting, the state is as before.
+    /// where memory is short, the state is as before.
     pub fn feed(&mut self, line: &Line) -> Result<(), FeedError>
         requires { IsWellFormed line.now }
         ensures { Feeds result (step self.old line.now) self.old self.new }
@@ -115,7 +115,7 @@ impl Checker {
     }
 
     /// Takes a line that is known to step, and tests nothing again: no hint is run and no id is looked up
-    /// before. It fails only where memory is wanting, and the state is as before then.
+    /// before. It fails only where memory is short, and the state is as before then.
     pub fn accept(&mut self, line: Line) -> Result<(), NoMemory>
         requires formed { IsWellFormed line }
         requires steps { IsOk (step self.old line) }
