@@ -40,22 +40,20 @@ def layers(tally, found):
 
 
 def functions(tally, found):
-    """The table of README: each library, and functions that it has."""
+    """The table of README: functions that the crate of their row has."""
     rows = table(os.path.join(TOP, "README.md"), "What is proved")
-    crate, seen = "", set()
+    crate = ""
     for row in rows:
         crate = (CODE.findall(row[0]) or [crate])[0]
-        seen.add(crate)
         for name in filter(None, map(WORD.match, CODE.findall(row[1]))):
             tally.test(f"README: {crate} has {name.group()}", has_item(crate, name.group(1)))
-    tally.test("README has each library", seen == set(found) - {"knf"}, sorted(seen ^ set(found)))
 
 
 def promises(tally, found):
-    """The layers of PROMISES: an entry for each library but the one of the commands, which has its own sections."""
+    """The layers of PROMISES: an entry for each library."""
     with open(os.path.join(TOP, "docs", "PROMISES.md"), encoding="utf-8") as file:
         seen = set(re.findall(r"^- `(\w+)`:", file.read(), re.MULTILINE))
-    tally.test("PROMISES has each library", seen == set(found) - {"kn_tool", "knf"}, sorted(seen ^ set(found)))
+    tally.test("PROMISES has each library", seen == set(found) - {"knf"}, sorted(seen ^ set(found)))
 
 
 def table_of(name, head):

@@ -6,6 +6,8 @@ ghost use Rattle.kn_bytes.specs.declared.read.ReadAll.TheVariants.{Memory};
 
 use crate::{Failed, Source};
 use std::alloc::{AllocError, Global};
+use std::error::Error;
+use std::fmt;
 
 const PIECE: usize = 1 << 16;
 
@@ -19,6 +21,18 @@ pub enum ReadAll {
     /// Memory is short.
     Memory,
 }
+
+impl fmt::Display for ReadAll {
+    fn fmt<W: fmt::Write>(&self, f: &mut fmt::Formatter<W>) -> fmt::Result {
+        f.write_str(match self {
+            ReadAll::Fault => "the source failed",
+            ReadAll::TooLong => "there are more bytes than the limit",
+            ReadAll::Memory => "memory is short",
+        })
+    }
+}
+
+impl Error for ReadAll {}
 
 impl From<AllocError> for ReadAll {
     ghost from_gives = { λ _ e. e ≡ Memory };

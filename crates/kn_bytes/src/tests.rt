@@ -1,3 +1,4 @@
+//! Reading and writing whole where pieces are short, calls fail or are interrupted, and room or a file is wanting.
 ghost use Rattle.std.specs.Prelude.{◌≤◌};
 
 use super::*;

@@ -3,10 +3,20 @@ ghost use Rattle.std.specs.Prelude.{OnOk, OnErr};
 ghost use Rattle.kn_bytes.specs.Outside.{HasCause, Got, GotPrefix};
 
 use crate::Sink;
+use std::error::Error;
+use std::fmt;
 
 /// A sink failed before it had all bytes.
 #[derive(Clone, Copy, Debug, PartialEq, Eq)]
 pub struct WriteFault;
+
+impl fmt::Display for WriteFault {
+    fn fmt<W: fmt::Write>(&self, f: &mut fmt::Formatter<W>) -> fmt::Result {
+        f.write_str("the sink failed before it had all bytes")
+    }
+}
+
+impl Error for WriteFault {}
 
 /// Gives all `bytes` to the sink. After a fault it has got some of the first of them.
 pub fn write_all<O: Sink>(sink: &mut O, bytes: &[u8]) -> Result<(), WriteFault>

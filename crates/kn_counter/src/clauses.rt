@@ -1,3 +1,4 @@
+//! Adding clauses behind a front, which is the negated guard or nothing: one code for klauses with and without one.
 ghost use Rattle.std.specs.Prelude.{◌≡◌, ◌∷◌, [], map, IfOk, OnOk};
 ghost use Rattle.kn_logic.specs.Literals.{AreKnown, negated};
 ghost use Rattle.kn_counter.specs.Rows.{with_clauses};

@@ -1,3 +1,5 @@
+//! A formula in clauses: a clause stays as it is, and of a klause the literals that are false are counted, since a
+//! sequential counter says "at most".
 ghost use Rattle.std.specs.Prelude.{◌≡◌, ◌≤◌, ◌<◌, ◌+◌, ◌-◌, ◌^◌, ◌++◌, Bool, true, List, length, take, min, IfOk, IfErr, OnOk};
 ghost use Rattle.std.specs.List.{AllByRecursion};
 ghost use Rattle.kn_logic.specs.Literals.{AreKnown};

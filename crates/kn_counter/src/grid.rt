@@ -1,3 +1,4 @@
+//! The nodes of a count's grid, told by their place alone: a checker needs no diagram to know what a proof speaks of.
 ghost use Rattle.std.specs.Prelude.{◌≡◌, ◌≤◌, ◌<◌, ◌+◌, ◌-◌, ◌^◌, ℕ, Bool, List, length};
 ghost use Rattle.kn_logic.specs.Literals.{Literal};
 ghost use Rattle.kn_counter.specs.Grids.{cell_of, IsKind};

@@ -1,3 +1,4 @@
+//! Clauses instead of klauses change no model, by the definition of the clauses and whatever program makes them.
 ghost use Rattle.std.specs.Prelude.{◌++◌, Bool, List, take};
 ghost use Rattle.kn_logic.specs.Formulas.{Problem, IsFormula, Satisfies};
 ghost use Rattle.kn_counter.specs.Counters.{counted};

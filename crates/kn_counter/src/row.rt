@@ -1,3 +1,4 @@
+//! The variables of a counter lie row behind row, so that each is found by its place and no table of them is kept.
 ghost use Rattle.std.specs.Prelude.{◌≡◌, ◌≤◌, ◌<◌, ◌+◌, ◌^◌};
 ghost use Rattle.kn_counter.specs.Rows.{row_literal};
 

@@ -1,3 +1,4 @@
+//! The clauses of a sequential counter, row by row: variable j of a row is true where j of the literals so far are.
 ghost use Rattle.std.specs.Prelude.{◌≡◌, ◌≤◌, ◌<◌, ◌+◌, ◌-◌, ◌*◌, ◌^◌, ◌∷◌, [], false, length, OnOk};
 ghost use Rattle.std.specs.List.{flat_map};
 ghost use Rattle.kn_logic.specs.Literals.{IsKnown, AreKnown};

@@ -1,3 +1,4 @@
+//! How many variables the clauses need, told first and without overflow, so that huge counts are refused at once.
 ghost use Rattle.std.specs.Prelude.{◌≡◌, ◌-◌, ◌^◌, min};
 ghost use Rattle.kn_counter.specs.Counters.{further, counted};
 

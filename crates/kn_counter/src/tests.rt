@@ -1,3 +1,4 @@
+//! The clauses of small counts, the models of counts of up to five literals before and after, and a grid's cells.
 ghost use Rattle.std.specs.Prelude.{◌≡◌, ◌≤◌, ◌<◌, ◌+◌, ◌^◌, length, IfOk, OnOk};
 ghost use Rattle.kn_logic.specs.Literals.{AreKnown, AreDifferent};
 ghost use Rattle.kn_logic.specs.Constraints.{Fits};

@@ -1,3 +1,4 @@
+//! Early stops: once too many results of one depth differ, the whole result must be wide and need not be finished.
 ghost use Rattle.std.specs.Prelude.{ℕ, ◌≡◌, ◌<◌, ◌≤◌, [], length, slice_index, nat_eq, OnOk, IfOk};
 ghost use Rattle.std.specs.List.{IsDistinct};
 ghost use Rattle.indexmap.specs.IndexSet.{insert_key};

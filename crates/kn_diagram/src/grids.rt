@@ -1,3 +1,4 @@
+//! Tests on the diagrams of counts, the grids: "at least half of n" is as wide as n / 2, well within the limit.
 ghost use Rattle.std.specs.Prelude.{ℕ, ◌≡◌, ◌+◌, ◌<◌, ◌≤◌, All, length, OnOk, IfOk};
 ghost use Rattle.std.specs.List.{range_with_len};
 ghost use Rattle.kn_diagram.specs.Diagrams.{IsNode, Keeps, depth_in};

@@ -1,3 +1,4 @@
+//! Conjunction and disjunction as one case of code, and the pairs for which neither goes further down.
 ghost use Rattle.std.specs.Prelude.{◌≡◌};
 ghost use Rattle.kn_diagram.specs.Traces.{absorbing, neutral, decided};
 

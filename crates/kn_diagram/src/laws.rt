@@ -1,3 +1,4 @@
+//! Laws on results and on width, for those who make proofs of traces or bound the groups that can be wide.
 ghost use Rattle.std.specs.Prelude.{ℕ, ◌≡◌, ◌<◌, ◌≤◌, Bool, Some, List, [], length};
 ghost use Rattle.kn_diagram.specs.declared.trace.Met.{Met};
 ghost use Rattle.kn_diagram.specs.Diagrams.{Table, IsTable, depth_of, high_at, low_at};

@@ -1,3 +1,4 @@
+//! The results of one operation by pair. Their order is kept, since they become the trace of the operation.
 ghost use Rattle.std.specs.Prelude.{◌≡◌, ◌+◌, ◌<◌, ◌++◌, [], ◌∷◌, None, OnOk, OnErr};
 ghost use Rattle.kn_diagram.specs.Traces.{found};
 

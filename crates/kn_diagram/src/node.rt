@@ -1,3 +1,4 @@
+//! Nodes as numbers. Since no function has two nodes, equal numbers are all that it takes to compare functions.
 ghost use Rattle.std.specs.Prelude.{◌≡◌, ◌↔◌, IsTrue};
 
 use std::marker::Model;

@@ -1,3 +1,4 @@
+//! A set of nodes in the order in which they came, so that one loop can go over it while it grows.
 ghost use Rattle.std.specs.Prelude.{◌≡◌, [], nat_eq, slice_get, OnOk};
 ghost use Rattle.indexmap.specs.IndexSet.{insert_key};
 

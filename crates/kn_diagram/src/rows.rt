@@ -1,3 +1,4 @@
+//! The table that makes nodes unique: a row that is asked for again has the place it had (Bryant's reduced diagrams).
 ghost use Rattle.std.specs.Prelude.{ℕ, ◌≡◌, ◌+◌, ◌^◌, ◌<◌, ◌≤◌, [], length, OnErr, IfOk};
 ghost use Rattle.kn_diagram.specs.Diagrams.{row_in, row_of_key, HasPlace};
 

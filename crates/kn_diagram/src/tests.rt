@@ -1,3 +1,4 @@
+//! Operations against lists of sixteen values, calls on a small diagram, and functions at the limit and just above.
 ghost use Rattle.std.specs.Prelude.{ℕ, ◌≡◌, ◌<◌, ◌≤◌, [], ◌∷◌, length, IfOk};
 ghost use Rattle.std.specs.List.{range_with_len};
 ghost use Rattle.kn_diagram.specs.Diagrams.{IsNode, Keeps, depth_in};

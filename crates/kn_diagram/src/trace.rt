@@ -1,3 +1,4 @@
+//! What an operation met on its way, so that a proof of its result can go the same way afterwards.
 ghost use Rattle.std.specs.Prelude.{◌≡◌, ◌++◌, [], take, OnOk, OnErr};
 
 use crate::Node;

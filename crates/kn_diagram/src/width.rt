@@ -1,3 +1,4 @@
+//! Width is counted over the nodes that a result reaches, not over all that were made: it is the function's alone.
 ghost use Rattle.std.specs.Prelude.{ℕ, ◌≡◌, ◌+◌, ◌^◌, ◌<◌, ◌≤◌, ◌==◌, ◌⊎◌, All, length, slice_index, nat_eq, nat_lt, if◌then◌else◌, OnOk, IfOk, IfSome, IfNone};
 ghost use Rattle.indexmap.specs.IndexSet.{insert_key};
 ghost use Rattle.kn_diagram.specs.Diagrams.{IsNode, depth_of, high_of, low_of};

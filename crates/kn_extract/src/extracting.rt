@@ -1,3 +1,5 @@
+//! The extraction from first to last. Seeds are tried before starts: the binary clauses of a counter are taken with
+//! it, before a pair group could have them.
 ghost use Rattle.std.specs.Prelude.{◌≡◌, ◌≤◌, length, IfOk};
 ghost use Rattle.kn_format.specs.Grammar.{most_constraints};
 ghost use Rattle.kn_extract.specs.Kept.{IsExtracted};

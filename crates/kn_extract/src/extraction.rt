@@ -1,3 +1,4 @@
+//! The outcome of `extract`. It has the formula from before too, since proofs and models are those of that one.
 ghost use Rattle.std.specs.Prelude.{◌≡◌};
 ghost use Rattle.kn_extract.specs.Kept.{Extracted, IsExtracted};
 

@@ -1,3 +1,4 @@
+//! What holds of an extraction by its definition, whatever code finds it, and so what any reader of one may rely on.
 ghost use Rattle.std.specs.Prelude.{◌≡◌, Bool, List};
 ghost use Rattle.std.specs.List.{AllByRecursion};
 ghost use Rattle.kn_logic.specs.Constraints.{Holds};

@@ -1,3 +1,5 @@
+//! One group of an extraction, with what is asked of it later: its places and its elimination for a proof, the
+//! buckets of the latter for the values of a model.
 ghost use Rattle.std.specs.Prelude.{◌≡◌, ◌↔◌, IsNone, IfSome, option_copied};
 ghost use Rattle.kn_logic.specs.Groups.{IsPairGroup};
 ghost use Rattle.kn_extract.specs.Kept.{Took, IsTaken, IsCountOf};

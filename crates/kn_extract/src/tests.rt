@@ -1,3 +1,4 @@
+//! Groups with their places, each answer to a seed, and the limits on groups, over formulas that stand in texts.
 use super::*;
 use crate::storing::stored;
 use kn_format::{ReadError, read_formula};

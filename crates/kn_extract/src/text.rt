@@ -1,3 +1,4 @@
+//! The text of an extraction. Auxiliary variables stand in comments, so that each reader of KNF takes it.
 ghost use Rattle.std.specs.Prelude.{◌≡◌, ◌++◌, IfOk, OnOk, map};
 ghost use Rattle.std.specs.List.{flat_map};
 ghost use Rattle.kn_format.specs.Grammar.{Spells};

@@ -120,7 +120,7 @@ refused_first bytes (Err Memory) gives = tt
 refused_first bytes (Err (Refused r)) gives = fault_is_first (length (lines_of bytes)) (content_of bytes) r gives
 
 -- and nothing else is a first fault
-bad_word_stays : (front back : List (List ℕ)) (word : List ℕ) (r here : Reading) (cause : ℕ) → after_words r front ≡ Ok here → after here word ≡ Err cause → after_words r (front ++ word ∷ back) ≡ Err cause
+pub bad_word_stays : (front back : List (List ℕ)) (word : List ℕ) (r here : Reading) (cause : ℕ) → after_words r front ≡ Ok here → after here word ≡ Err cause → after_words r (front ++ word ∷ back) ≡ Err cause
 bad_word_stays front back word r here cause read bad =
     after_both front (word ∷ back) r ∙ ap (λ x. x >>= λ n. after_words n (word ∷ back)) read ∙ ap (λ x. x >>= λ n. after_words n back) bad
 

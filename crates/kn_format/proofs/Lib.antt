@@ -6,3 +6,6 @@ pub mod Whole
 pub mod First
 pub mod Written
 pub mod Again
+pub mod Completed
+pub mod Causes
+pub mod Faulty

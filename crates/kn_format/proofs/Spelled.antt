@@ -1,5 +1,5 @@
 -- A spelled formula is read.
-use Rattle.std.proofs.Common.{◌≡◌, ℕ, ◌+◌, ◌==◌, false, List, [], ◌∷◌, ◌++◌, length, Option, Some, None, Ok, refl, sym, ap, subst, ◌∙◌, append_assoc, length-append, arith, inl, inr}
+use Rattle.std.proofs.Common.{◌≡◌, ℕ, ◌≤◌, ◌+◌, ◌==◌, false, List, [], ◌∷◌, ◌++◌, length, Option, Some, None, Ok, refl, sym, ap, subst, ◌∙◌, append_assoc, length-append, arith, inl, inr}
 use Rattle.std.proofs.lemmas.List.{append-nil}
 use Rattle.std.proofs.lemmas.Bool.Decides.{nat_tests}
 use Rattle.std.specs.Prelude.{Result, IsSome, IfSome, option_to_list}
@@ -63,23 +63,23 @@ Reaches result format count vars all = (begun : Bounded) × (result ≡ Ok (read
 
 abbrev pub IsRead : List (List ℕ) → Type 0
 IsRead words = (format : Format) (count vars : ℕ) (done : List Bounded) (place : Place) (begun : Bounded) (cs : List Bounded)
-    → Rest format place begun words cs → AllByRecursion (Fits vars) cs → length done + length cs ≡ count
+    → Rest format place begun words cs → AllByRecursion (Fits vars) cs → length done + length cs ≤ count
     → Reaches (after_words (reading format count vars done place begun) words) format count vars (done ++ cs)
 
 reaches : (format : Format) (count vars : ℕ) (all : List Bounded) (r next : Reading) (word : List ℕ) (words : List (List ℕ))
     → after r word ≡ Ok next → Reaches (after_words next words) format count vars all → Reaches (after_words r (word ∷ words)) format count vars all
 reaches format count vars all r next word words e more = (more.0, step r next word words e ∙ more.1)
 
-has_room : (done : List Bounded) (c : Bounded) (cs : List Bounded) (count : ℕ) → length done + length (c ∷ cs) ≡ count → (length done == count) ≡ false
+has_room : (done : List Bounded) (c : Bounded) (cs : List Bounded) (count : ℕ) → length done + length (c ∷ cs) ≤ count → (length done == count) ≡ false
 has_room done c cs count e = grind (arith, nat_tests)
 
 -- where the constraint that was begun is complete
 completed : (format : Format) (count vars : ℕ) (done : List Bounded) (c begun : Bounded) (cs : List Bounded) (r : Reading) (word : List ℕ) (words : List (List ℕ))
     → after r word ≡ Ok (reading format count vars (done ++ c ∷ []) Between nothing) → c ≡ begun → Then format cs words
-    → AllByRecursion (Fits vars) cs → length done + length (begun ∷ cs) ≡ count → IsRead words
+    → AllByRecursion (Fits vars) cs → length done + length (begun ∷ cs) ≤ count → IsRead words
     → Reaches (after_words r (word ∷ words)) format count vars (done ++ begun ∷ cs)
 completed format count vars done c begun cs r word words e same rest fits n more =
-    let len : length (done ++ c ∷ []) + length cs ≡ count = rw length-append (omega arith) in
+    let len : length (done ++ c ∷ []) + length cs ≤ count = rw length-append (omega arith) in
     let all : (done ++ c ∷ []) ++ cs ≡ done ++ begun ∷ cs = append_assoc done (c ∷ []) cs ∙ ap (λ d. done ++ d ∷ cs) same in
     subst (λ (ds : List Bounded). Reaches (after_words r (word ∷ words)) format count vars ds) all
     (reaches format count vars ((done ++ c ∷ []) ++ cs) r _ word words e (more format count vars (done ++ c ∷ []) Between nothing cs rest fits len))
@@ -114,7 +114,7 @@ apart_in begun c l lits e different =
     (subst (λ (ls : List Literal). AreDifferent ls) (ap named e ∙ sym (append_assoc (option_to_list begun.guard) begun.lits (l ∷ lits))) different)
 
 in_clause : (word : List ℕ) (words : List (List ℕ)) (more : IsRead words) (format : Format) (count vars : ℕ) (done : List Bounded) (begun c : Bounded) (cs : List Bounded) (lits : List Literal)
-    → c ≡ joined begun lits → LiteralsThen (Then format cs) (word ∷ words) lits → Fits vars c → AllByRecursion (Fits vars) cs → length done + length (c ∷ cs) ≡ count
+    → c ≡ joined begun lits → LiteralsThen (Then format cs) (word ∷ words) lits → Fits vars c → AllByRecursion (Fits vars) cs → length done + length (c ∷ cs) ≤ count
     → Reaches (after_words (reading format count vars done Clause begun) (word ∷ words)) format count vars (done ++ c ∷ cs)
 in_clause word words more format count vars done begun c cs [] whole spelled here fits n =
     completed format count vars done begun c cs (reading format count vars done Clause begun) word words
@@ -126,7 +126,7 @@ in_clause word words more format count vars done begun c cs (l ∷ lits) whole s
     (record { lits = lits; whole = joined_literal begun l lits c whole; spelled = spelled.1 }) (here, fits) n)
 
 in_klause : (word : List ℕ) (words : List (List ℕ)) (more : IsRead words) (format : Format) (count vars : ℕ) (done : List Bounded) (begun c : Bounded) (cs : List Bounded) (lits : List Literal)
-    → c ≡ joined begun lits → LiteralsThen (Then format cs) (word ∷ words) lits → AreDifferent (named c) → Fits vars c → AllByRecursion (Fits vars) cs → length done + length (c ∷ cs) ≡ count
+    → c ≡ joined begun lits → LiteralsThen (Then format cs) (word ∷ words) lits → AreDifferent (named c) → Fits vars c → AllByRecursion (Fits vars) cs → length done + length (c ∷ cs) ≤ count
     → Reaches (after_words (reading format count vars done Klause begun) (word ∷ words)) format count vars (done ++ c ∷ cs)
 in_klause word words more format count vars done begun c cs [] whole spelled different here fits n =
     completed format count vars done begun c cs (reading format count vars done Klause begun) word words
@@ -138,7 +138,7 @@ in_klause word words more format count vars done begun c cs (l ∷ lits) whole s
     (record { lits = lits; whole = joined_literal begun l lits c whole; spelled = spelled.1; different = different }) (here, fits) n)
 
 at_bound : (word : List ℕ) (words : List (List ℕ)) (more : IsRead words) (format : Format) (count vars : ℕ) (done : List Bounded) (begun c : Bounded) (cs : List Bounded)
-    → AtBound format begun (word ∷ words) c cs → Fits vars c → AllByRecursion (Fits vars) cs → length done + length (c ∷ cs) ≡ count
+    → AtBound format begun (word ∷ words) c cs → Fits vars c → AllByRecursion (Fits vars) cs → length done + length (c ∷ cs) ≤ count
     → Reaches (after_words (reading format count vars done Bound begun) (word ∷ words)) format count vars (done ++ c ∷ cs)
 at_bound word words more format count vars done begun c cs rest here fits n =
     reaches format count vars (done ++ c ∷ cs) (reading format count vars done Bound begun) (reading format count vars done Klause (with_bound begun rest.bound)) word words
@@ -159,7 +159,7 @@ is_not_none None some e = absurd cc
 is_not_none (Some l) some e = cc
 
 at_guard : (word : List ℕ) (words : List (List ℕ)) (more : IsRead words) (format : Format) (count vars : ℕ) (done : List Bounded) (begun c : Bounded) (cs : List Bounded) (guard : Option Literal)
-    → c.guard ≡ guard → AtGuard format (word ∷ words) c cs → Fits vars c → AllByRecursion (Fits vars) cs → length done + length (c ∷ cs) ≡ count
+    → c.guard ≡ guard → AtGuard format (word ∷ words) c cs → Fits vars c → AllByRecursion (Fits vars) cs → length done + length (c ∷ cs) ≤ count
     → Reaches (after_words (reading format count vars done Guard begun) (word ∷ words)) format count vars (done ++ c ∷ cs)
 at_guard word words more format count vars done begun c cs None e rest here fits n = absurd (is_not_none c.guard rest.spelled.0 e)
 at_guard word words more format count vars done begun c cs (Some l) e rest here fits n =
@@ -171,7 +171,7 @@ at_guard word words more format count vars done begun c cs (Some l) e rest here 
 
 -- where a constraint begins
 begins_clause : (word : List ℕ) (words : List (List ℕ)) (more : IsRead words) (format : Format) (count vars : ℕ) (done : List Bounded) (begun c : Bounded) (cs : List Bounded) (lits : List Literal)
-    → c ≡ clause lits → LiteralsThen (Then format cs) (word ∷ words) lits → Fits vars c → AllByRecursion (Fits vars) cs → length done + length (c ∷ cs) ≡ count
+    → c ≡ clause lits → LiteralsThen (Then format cs) (word ∷ words) lits → Fits vars c → AllByRecursion (Fits vars) cs → length done + length (c ∷ cs) ≤ count
     → Reaches (after_words (reading format count vars done Between begun) (word ∷ words)) format count vars (done ++ c ∷ cs)
 begins_clause word words more format count vars done begun c cs [] whole spelled here fits n =
     completed format count vars done (clause []) c cs (reading format count vars done Between begun) word words
@@ -183,7 +183,7 @@ begins_clause word words more format count vars done begun c cs (l ∷ lits) who
     (record { lits = lits; whole = whole; spelled = spelled.1 }) (here, fits) n)
 
 begins_marked : (word : List ℕ) (words : List (List ℕ)) (more : IsRead words) (count vars : ℕ) (done : List Bounded) (begun c : Bounded) (cs : List Bounded)
-    → MarkedThen (Then Knf cs) (word ∷ words) c → Fits vars c → AllByRecursion (Fits vars) cs → length done + length (c ∷ cs) ≡ count
+    → MarkedThen (Then Knf cs) (word ∷ words) c → Fits vars c → AllByRecursion (Fits vars) cs → length done + length (c ∷ cs) ≤ count
     → Reaches (after_words (reading Knf count vars done Between begun) (word ∷ words)) Knf count vars (done ++ c ∷ cs)
 begins_marked word words more count vars done begun c cs rest here fits n =
     let room : (length done == count) ≡ false = has_room done c cs count n in
@@ -200,7 +200,7 @@ begins_marked word words more count vars done begun c cs rest here fits n =
     ]
 
 begins : (word : List ℕ) (words : List (List ℕ)) (more : IsRead words) (format : Format) (count vars : ℕ) (done : List Bounded) (begun c : Bounded) (cs : List Bounded)
-    → ConstraintThen format (Then format cs) (word ∷ words) c → Fits vars c → AllByRecursion (Fits vars) cs → length done + length (c ∷ cs) ≡ count
+    → ConstraintThen format (Then format cs) (word ∷ words) c → Fits vars c → AllByRecursion (Fits vars) cs → length done + length (c ∷ cs) ≤ count
     → Reaches (after_words (reading format count vars done Between begun) (word ∷ words)) format count vars (done ++ c ∷ cs)
 begins word words more Cnf count vars done begun c cs rest here fits n = begins_clause word words more Cnf count vars done begun c cs c.lits rest.0 rest.1 here fits n
 begins word words more Knf count vars done begun c cs rest here fits n =

@@ -33,7 +33,7 @@ is_within_limits h vars count =
     let c : nat_lt most_constraints h.count ≡ false = le-ltb most_constraints h.count count in
     rw (v, c) refl
 
-header_is_read : (words : List (List ℕ)) (h : Header) → SpellsProblem words h.format h.vars h.count → h.vars ≤ most_variables → h.count ≤ most_constraints → header_of words ≡ Ok h
+pub header_is_read : (words : List (List ℕ)) (h : Header) → SpellsProblem words h.format h.vars h.count → h.vars ≤ most_variables → h.count ≤ most_constraints → header_of words ≡ Ok h
 header_is_read [] h spelled vars count = absurd spelled
 header_is_read (p ∷ []) h spelled vars count = absurd spelled
 header_is_read (p ∷ name ∷ []) h spelled vars count = absurd spelled
@@ -57,10 +57,10 @@ format_was_named-at name format false t e = format_was_named-knf name format (by
 format_was_named : (name : List ℕ) (format : Format) → format_of name ≡ Some format → name ≡ format_word format
 format_was_named name format e = format_was_named-at name format (bytes_eq name (codes "cnf")) refl e
 
-record IsHeader (words : List (List ℕ)) (h : Header) : Type 0 where
-  spelled : SpellsProblem words h.format h.vars h.count
-  vars : h.vars ≤ most_variables
-  count : h.count ≤ most_constraints
+pub record IsHeader (words : List (List ℕ)) (h : Header) : Type 0 where
+  pub spelled : SpellsProblem words h.format h.vars h.count
+  pub vars : h.vars ≤ most_variables
+  pub count : h.count ≤ most_constraints
 
 limits_kept : (g h : Header) → within_limits g ≡ Ok h → (g ≡ h) × (g.vars ≤ most_variables) × (g.count ≤ most_constraints)
 limits_kept g h e =
@@ -86,7 +86,7 @@ rest_was_spelled p (name ∷ first ∷ []) h begins e = absurd cc
 rest_was_spelled p (name ∷ first ∷ second ∷ []) h begins e = numbers_were_spelled p name first second h (format_of name) (number_of first) (number_of second) begins refl refl refl e
 rest_was_spelled p (name ∷ first ∷ second ∷ word ∷ words) h begins e = absurd cc
 
-header_was_spelled : (words : List (List ℕ)) (h : Header) → header_of words ≡ Ok h → IsHeader words h
+pub header_was_spelled : (words : List (List ℕ)) (h : Header) → header_of words ≡ Ok h → IsHeader words h
 header_was_spelled [] h e = absurd cc
 header_was_spelled (p ∷ words) h e =
     let w = when (bytes_eq p (codes "p")) no_header (header_behind words) h e in
@@ -134,12 +134,12 @@ pub is_no_tail : (r s : Reading) (words : List (List ℕ)) (t : Bool) → ends r
 is_no_tail r s words true tail e = absurd (ends_has_cause r s words tail e)
 is_no_tail r s words false tail e = tail
 
-tail_is_percent : (words : List (List ℕ)) → BeginsTail words → is_percent words ≡ true
+pub tail_is_percent : (words : List (List ℕ)) → BeginsTail words → is_percent words ≡ true
 tail_is_percent [] tail = absurd tail
 tail_is_percent ([] ∷ words) tail = absurd tail
 tail_is_percent ((b ∷ word) ∷ words) tail = eq-eqb b 37 tail
 
-percent_is_tail : (words : List (List ℕ)) → is_percent words ≡ true → BeginsTail words
+pub percent_is_tail : (words : List (List ℕ)) → is_percent words ≡ true → BeginsTail words
 percent_is_tail [] percent = absurd cc
 percent_is_tail ([] ∷ words) percent = absurd cc
 percent_is_tail ((b ∷ word) ∷ words) percent = eqb-true b 37 percent
@@ -174,7 +174,7 @@ record WasRead (r : Reading) (lines : List Line) (f : Problem) : Type 0 where
   formula : last.formula ≡ f
   ending : IsTail tail
 
-at_between : (place : Place) → is_between place ≡ true → place ≡ Between
+pub at_between : (place : Place) → is_between place ≡ true → place ≡ Between
 at_between Between e = refl
 at_between Guard e = absurd cc
 at_between Bound e = absurd cc

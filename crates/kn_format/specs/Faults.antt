@@ -1,5 +1,6 @@
 -- The first fault of a text that spells no formula. The words of the constraints are read one after
 -- another, and at each place of the grammar some words have a cause; the first such word is the fault.
+-- `FirstFaults` tells by the grammar alone where it stands.
 use Rattle.std.specs.Prelude.{ℕ, ◌≡◌, ◌==◌, nat_lt, ◌++◌, Bool, true, false, ◌&&◌, ◌⊎◌, if◌then◌else◌, List, [], ◌∷◌, length, Option, Some, None, Result, Ok, Err, codes}
 use Rattle.std.specs.Str.{bytes_eq}
 use Rattle.kn_logic.specs.Literals.{Literal, names}

@@ -22,3 +22,21 @@ pub const EXTRA_CONSTRAINT: u8 = 9;
 pub const UNENDED: u8 = 10;
 /// The text ends before there are as many constraints as the problem line says.
 pub const MISSING_CONSTRAINT: u8 = 11;
+
+// What is wrong, in words.
+pub(crate) fn sentence(why: u8) -> &'static str {
+    match why {
+        NO_HEADER => "no problem line",
+        BAD_HEADER => "a bad problem line",
+        TOO_MANY_VARIABLES => "more than 1000000 variables",
+        TOO_MANY_CONSTRAINTS => "more than 10000000 constraints",
+        BAD_TOKEN => "a word that may not stand here",
+        VARIABLE_ABOVE_HEADER => "a variable above those of the problem line",
+        BOUND_TOO_LARGE => "a bound above 1000000",
+        REPEATED_VARIABLE => "a variable that the klause has named before",
+        EXTRA_CONSTRAINT => "one constraint more than the problem line says",
+        UNENDED => "the text ends within a constraint",
+        MISSING_CONSTRAINT => "fewer constraints than the problem line says",
+        _ => "an unknown cause",
+    }
+}

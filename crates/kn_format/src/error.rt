@@ -1,7 +1,11 @@
+//! Why a text is refused: a line and a cause, both numbers, so that programs can compare what they are told.
 ghost use Rattle.std.specs.Prelude.{◌≡◌};
 ghost use Rattle.kn_format.specs.declared.error.ReadError.TheVariants.{Memory};
 
+use crate::cause;
 use std::alloc::{AllocError, AllocFailed};
+use std::error::Error;
+use std::fmt;
 
 /// The first fault of a text that spells no formula: its line, counted from 1, and its cause.
 ///
@@ -24,6 +28,14 @@ pub struct Refusal {
     pub why: u8,
 }
 
+impl fmt::Display for Refusal {
+    fn fmt<W: fmt::Write>(&self, f: &mut fmt::Formatter<W>) -> fmt::Result {
+        write!(f, "line {}: {}", self.line, cause::sentence(self.why))
+    }
+}
+
+impl Error for Refusal {}
+
 /// Why a formula could not be read.
 #[derive(Clone, Copy, Debug, PartialEq, Eq)]
 pub enum ReadError {
@@ -32,6 +44,17 @@ pub enum ReadError {
     /// Memory is short.
     Memory,
 }
+
+impl fmt::Display for ReadError {
+    fn fmt<W: fmt::Write>(&self, f: &mut fmt::Formatter<W>) -> fmt::Result {
+        match self {
+            ReadError::Refused(refusal) => write!(f, "{refusal}"),
+            ReadError::Memory => write!(f, "memory is short"),
+        }
+    }
+}
+
+impl Error for ReadError {}
 
 impl From<AllocError> for ReadError {
     ghost from_gives = { λ _ e. e ≡ Memory };

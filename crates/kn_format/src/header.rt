@@ -1,3 +1,4 @@
+//! The problem line, `p cnf V C` or `p knf V C`. Its limits are tested before any constraint is read.
 ghost use Rattle.std.specs.Prelude.{◌≡◌};
 ghost use Rattle.kn_text.specs.Lines.{words_of};
 ghost use Rattle.kn_format.specs.Faults.{format_of, within_limits, header_behind, header_of};

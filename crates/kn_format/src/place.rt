@@ -1,3 +1,4 @@
+//! The places of the grammar at which a word of the constraints may stand, for the reader of a formula.
 /// What comes next among the words of the constraints.
 #[derive(Clone, Copy, PartialEq, Eq)]
 pub enum Place {

@@ -1,3 +1,4 @@
+//! Reading a formula whole. Behind the last constraint a line of `%` ends it, as in the files of SATLIB.
 ghost use Rattle.std.specs.Prelude.{◌≡◌, ◌∷◌, [], ◌+◌, ◌^◌, ◌<◌, ◌≤◌, length, IfOk, IfErr};
 ghost use Rattle.kn_logic.specs.Formulas.{Problem};
 ghost use Rattle.kn_text.specs.Lines.{lines_of, words_of, content_from};

@@ -1,3 +1,5 @@
+//! The words behind the problem line, one after another. A constraint may go over several lines, or share one with
+//! others, so what is begun is kept from word to word.
 ghost use Rattle.std.specs.Prelude.{◌≡◌, ◌≤◌, [], ◌∷◌, true, false, OnOk, IfOk, not, if◌then◌else◌, Ok, Err};
 ghost use Rattle.kn_logic.specs.Literals.{IsKnown, names};
 ghost use Rattle.kn_logic.specs.Constraints.{clause, guarded_klause, named};

@@ -1,3 +1,4 @@
+//! First faults, by line and cause, of texts that are cut or wrong in one place, and texts that are written again.
 use super::*;
 use kn_logic::{Assignment, Constraint, Formula, Lit};
 use std::alloc::Global;
@@ -182,4 +183,31 @@ fn writes_clauses_and_models(rt: HostRuntime) -> Result<(), Fail> {
         b"v 1 2 -3 4 5 6 7 8 9 10\nv 0\n".as_slice()
     );
     Ok(())
+}
+
+// How the error is printed; empty where the text is read, and where memory is short.
+fn printed(alloc: Global, text: &[u8]) -> String {
+    match read_formula(alloc, text) {
+        Ok(_) => String::new(alloc),
+        Err(error) => format!(in alloc; "{error}").unwrap_or(String::new(alloc)),
+    }
+}
+
+#[test]
+fn prints_errors(rt: HostRuntime) {
+    let cases = [
+        (b"c only".as_slice(), "line 1: no problem line"),
+        (
+            b"p cnf 1 1\n\n1 -2 0\n",
+            "line 3: a variable above those of the problem line",
+        ),
+        (
+            b"p knf 2 1\nk 2 1 -1 0\n",
+            "line 2: a variable that the klause has named before",
+        ),
+        (b"p cnf 1 1\n1 0\n", ""),
+    ];
+    for (text, want) in cases {
+        assert_eq!(rt; printed(rt.alloc(), text).as_str(), want);
+    }
 }

@@ -1,3 +1,4 @@
+//! Formulas as texts that are read again, and models as the `v` lines of the SAT Competition's output.
 ghost use Rattle.std.specs.Prelude.{◌≡◌, ◌+◌, ◌++◌, ◌∷◌, [], ℕ, List, length, IfOk, OnOk, decimal, codes, Some, None, true};
 ghost use Rattle.std.specs.List.{AllByRecursion, flat_map};
 ghost use Rattle.kn_logic.specs.Constraints.{is_clause};

@@ -4,7 +4,7 @@
 #![tactic(auto)]
 
 mod blocks;
-mod generate;
+mod generate; // `make_formula`
 mod laws;
 
 pub use generate::{MAX_BLOCKS, make_formula};

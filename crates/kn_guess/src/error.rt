@@ -1,3 +1,4 @@
+//! Why a seed has no guess. The tests have an order, so that a seed has one answer, however it is found.
 use kn_logic::NoMemory;
 
 /// Why a variable has no guess: the first test that fails, in this order, or want of memory.

@@ -1,3 +1,4 @@
+//! What a guess hands to the verdict, the group, and to the store, the ids by which its clauses are taken out.
 ghost use Rattle.std.specs.Prelude.{◌≡◌, length};
 ghost use Rattle.std.specs.List.Sorted.{IsStrictlyIncreasing};
 ghost use Rattle.kn_logic.specs.Groups.{IsGroup};

@@ -6,7 +6,7 @@
 mod binary;
 mod border;
 mod covering;
-mod error;
+mod error; // `NoGuess`
 mod flag_set;
 mod flags;
 mod gathering;
@@ -17,10 +17,10 @@ mod laws;
 mod marks;
 mod meeting;
 mod numbers;
-mod pairs;
+mod pairs; // `pair_guess`
 mod partner;
 mod rows;
-mod seeds;
+mod seeds; // `aux_guess`
 mod tables;
 mod taking;
 mod var_set;

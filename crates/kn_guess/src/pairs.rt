@@ -1,3 +1,5 @@
+//! Guesses from a binary clause, a literal at a time. Each two of the literals stand in a clause, so at most one is
+//! false: that such a group counts need not be asked.
 ghost use Rattle.std.specs.Prelude.{◌≡◌, ◌≤◌, ◌<◌, ◌∷◌, [], false, true, length, map, IfOk, IfSome, IfNone, option_copied};
 ghost use Rattle.kn_logic.specs.Constraints.{Bounded};
 ghost use Rattle.kn_logic.specs.Groups.{IsPairGroup, is_binary};

@@ -1,3 +1,4 @@
+//! Guesses from a variable, by tables made once for all seeds: while a variable is free, what names it stays.
 ghost use Rattle.std.specs.Prelude.{ℕ, ◌≡◌, ◌≤◌, true, false, List, filter, IfOk, IfErr};
 ghost use Rattle.std.specs.List.{AllByRecursion};
 ghost use Rattle.std.specs.List.Sorted.{IsStrictlyIncreasing};

@@ -1,3 +1,4 @@
+//! Seeds and starts of small stores: counters, pigeons in holes, guards, and groups at the limits of a guess.
 ghost use Rattle.std.specs.Prelude.{◌≡◌, ◌≤◌, ◌+◌, length, IfOk};
 ghost use Rattle.kn_logic.specs.Constraints.{Fits};
 

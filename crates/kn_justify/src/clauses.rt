@@ -1,3 +1,4 @@
+//! The unit of a clause's node. The diagram of a clause is a chain, so one run of hints down it is enough.
 ghost use Rattle.std.specs.Prelude.{ℕ, ◌≡◌, ◌≤◌, ◌∷◌, [], Bool, false, Some, IfOk, IsErrOf};
 ghost use Rattle.std.specs.List.{list_any};
 ghost use Rattle.kn_logic.specs.Constraints.{clause};

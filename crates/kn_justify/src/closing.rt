@@ -1,3 +1,4 @@
+//! The last two lines of a justification: its klause, and the deletion of the clauses that the klause now stands for.
 ghost use Rattle.std.specs.Prelude.{◌≡◌, ◌≤◌, false, nat_eq, IfOk, IsOk, IsErrOf};
 ghost use Rattle.std.specs.List.{IsDistinct};
 ghost use Rattle.kn_bytes.specs.Outside.{Rose};

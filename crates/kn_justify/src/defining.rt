@@ -1,3 +1,4 @@
+//! One definition by a line of the log: a new variable, as in extended resolution, and the ids of its clauses.
 ghost use Rattle.std.specs.Prelude.{◌≡◌, ◌+◌, ◌<◌, ◌≤◌, ◌^◌, true, false, IfOk, IsErrOf};
 ghost use Rattle.kn_bytes.specs.Outside.{Rose};
 ghost use Rattle.kn_logic.specs.Literals.{IsKnown};

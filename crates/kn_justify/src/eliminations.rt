@@ -1,3 +1,4 @@
+//! The klause of a group with auxiliary variables: the elimination that found it is turned into a proof of it.
 ghost use Rattle.std.specs.Prelude.{ℕ, ◌≡◌, ◌≤◌, false, length, nat_eq, Some, None, IfOk, OnOk, IsErrOf};
 ghost use Rattle.std.specs.List.{IsDistinct, AllByRecursion};
 ghost use Rattle.kn_bytes.specs.Outside.{Rose};

@@ -1,3 +1,4 @@
+//! The lemmas of a join, in the order of its trace, in which the pairs below a pair come before it.
 ghost use Rattle.std.specs.Prelude.{◌≡◌, ◌<◌, ◌≤◌, ◌⊎◌, [], true, false, option_to_list, IfOk, IsErrOf};
 ghost use Rattle.kn_bytes.specs.Outside.{Rose};
 ghost use Rattle.kn_logic.specs.Literals.{IsKnown};

@@ -1,3 +1,4 @@
+//! The lemmas of one trace by pair of nodes, so that an entry finds those of its children, and none is logged twice.
 ghost use Rattle.std.specs.Prelude.{◌≡◌, ◌++◌, ◌∷◌, [], None, OnOk, OnErr};
 ghost use Rattle.kn_justify.specs.Lemmas.{lemma_of};
 

@@ -1,25 +1,25 @@
 //! Proofs that a group of clauses makes its klause: the lines that end with the klause in place of the clauses.
 #![tactic(auto)]
 
-mod clauses;
+mod clauses; // `clause_unit`
 mod closing;
 mod counts;
 mod defining;
-mod eliminations;
+mod eliminations; // `justify_elimination`
 mod joins;
 mod lemmas;
 mod name;
 mod named;
 mod naming;
 mod noted;
-mod pair_groups;
+mod pair_groups; // `justify_pairs`
 mod pair_ids;
 mod pairs;
 mod quantified;
 mod settling;
 mod side;
 mod stages;
-mod units;
+mod units; // `and_unit` and `exists_unit`
 
 pub use clauses::clause_unit;
 pub use eliminations::justify_elimination;

@@ -1,3 +1,4 @@
+//! The names of nodes, kept over all stages of an elimination: a node that is met again is not defined again.
 ghost use Rattle.std.specs.Prelude.{◌≡◌, ◌+◌, ◌<◌, ◌≤◌, ◌^◌, ◌++◌, ◌∷◌, [], None, OnErr, OnOk, IfSome};
 ghost use Rattle.kn_diagram.specs.Diagrams.{IsNode};
 ghost use Rattle.kn_justify.specs.Names.{name_of, arm_of, arm_at, hint_at};

@@ -1,3 +1,4 @@
+//! Names for the nodes of diagrams, by definitions as in extended resolution, children before parents.
 ghost use Rattle.std.specs.Prelude.{◌≡◌, ◌≤◌, false, None, slice_index, OnOk, IsErrOf};
 ghost use Rattle.kn_bytes.specs.Outside.{Rose};
 ghost use Rattle.kn_logic.specs.Literals.{IsKnown};

@@ -1,3 +1,4 @@
+//! The units that were made so far, by node: a later stage starts from those of the nodes that it is made of.
 ghost use Rattle.std.specs.Prelude.{◌≡◌, ◌++◌, ◌∷◌, [], None, OnOk, OnErr};
 ghost use Rattle.kn_justify.specs.Taken.{unit_of};
 

@@ -1,3 +1,5 @@
+//! The lemma of one entry, by two lines: unit propagation splits no case, so the first line settles the case that the
+//! tested variable is true, and the second one needs only the other case.
 ghost use Rattle.std.specs.Prelude.{◌≡◌, ◌<◌, ◌≤◌, ◌++◌, ◌∷◌, [], false, length, option_map, option_to_list, IfOk, OnOk, IsErrOf};
 ghost use Rattle.kn_bytes.specs.Outside.{Rose};
 ghost use Rattle.kn_logic.specs.Literals.{negated, IsKnown};

@@ -1,3 +1,4 @@
+//! The lemmas of a quantification: above the variable they go on as in a join; at it they come of a disjunction.
 ghost use Rattle.std.specs.Prelude.{◌≡◌, ◌≤◌, ◌||◌, [], false, option_to_list, IfOk, IsErrOf};
 ghost use Rattle.kn_bytes.specs.Outside.{Rose};
 ghost use Rattle.kn_log.specs.Written.{LogsSuch};

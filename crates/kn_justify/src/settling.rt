@@ -1,3 +1,4 @@
+//! The one place where a justification logs lemmas. Clauses that always hold are left out: no run of hints needs one.
 ghost use Rattle.std.specs.Prelude.{◌≡◌, ◌≤◌, [], true, false, Some, is_none, option_to_list, IfOk, IfSome, IsErrOf};
 ghost use Rattle.kn_bytes.specs.Outside.{Rose};
 ghost use Rattle.kn_logic.specs.Literals.{has};

@@ -1,3 +1,4 @@
+//! Which clause is proved of an entry: from both nodes to a conjunction, from one node to a disjunction.
 ghost use Rattle.std.specs.Prelude.{◌≡◌};
 ghost use Rattle.kn_justify.specs.Lemmas.{seen, alone};
 

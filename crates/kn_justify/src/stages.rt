@@ -1,3 +1,4 @@
+//! From the clauses of a group to the units of all stages. All nodes of a stage's trace are named before its lemmas.
 ghost use Rattle.std.specs.Prelude.{ℕ, ◌≡◌, ◌≤◌, [], Bool, false, Some, IfOk, OnOk, IsErrOf};
 ghost use Rattle.std.specs.List.{list_any};
 ghost use Rattle.kn_bytes.specs.Outside.{Rose};

@@ -1,3 +1,5 @@
+//! Units of joins and quantifications. A unit says that the function of a node holds; that of a result follows from
+//! those of the nodes it was made from, by the lemmas of its trace.
 ghost use Rattle.std.specs.Prelude.{◌≡◌, ◌≤◌, ◌∷◌, [], true, false, option_to_list, IfOk, IsErrOf};
 ghost use Rattle.kn_bytes.specs.Outside.{Rose};
 ghost use Rattle.kn_rules.specs.Steps.{is_known_arm};

@@ -1,4 +1,4 @@
-//! A klause, with or without a guard.
+//! Klauses of both kinds as one kind, so that an engine of two kinds has clauses, klauses and guarded klauses.
 ghost use Rattle.std.specs.Prelude.{◌≡◌, ◌<◌, ℕ, Bool, true, length};
 ghost use Rattle.std.specs.Option.{is_some};
 ghost use Rattle.kn_logic.specs.Propagation.{is_open};

@@ -38,7 +38,7 @@ pub fn learn<C: Watched, K: Watched>(
 }
 
 /// As `learn`, with tables that are kept from conflict to conflict: what it costs is in proportion to the
-/// constraints that it looks at. An error where memory is wanting.
+/// constraints that it looks at and the literals of the conflict's level. An error where memory is short.
 pub fn learn_with<C: Watched, K: Watched>(
     analysis: &mut Analysis,
     engine: &Engine<C, K>,

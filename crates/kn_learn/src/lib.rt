@@ -7,12 +7,12 @@
 mod analysis;
 mod learned;
 mod learning;
-mod locking;
+mod locking; // `is_locked`
 mod marks;
 mod noting;
 mod reading;
 mod removing;
-mod rooting;
+mod rooting; // `root_hints`
 mod seeing;
 mod sweeping;
 mod walking;

@@ -1,3 +1,4 @@
+//! Lists of ids, a type of their own so that contracts speak of the list alone and not of the vector that has it.
 ghost use Rattle.std.specs.Prelude.{◌≡◌};
 
 use std::marker::Model;

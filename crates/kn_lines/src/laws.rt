@@ -1,3 +1,4 @@
+//! Reading undoes writing, and words spell at most one line: whoever logs a line knows what a checker will read.
 ghost use Rattle.std.specs.Prelude.{ℕ, ◌≡◌, List, false};
 ghost use Rattle.std.specs.List.{join_with_byte};
 ghost use Rattle.kn_text.specs.Lines.{is_skipped, IsContent, IsPlainLine};

@@ -1,3 +1,4 @@
+//! What a line of a proof says, apart from its spelling: reader, writer, checker and makers of proofs share it.
 use crate::Ids;
 use kn_logic::{Constraint, Lit};
 

@@ -1,3 +1,4 @@
+//! Reading a line by its first word. Its form alone is judged: which ids are live is for the checker to know.
 ghost use Rattle.std.specs.Prelude.{◌≡◌, [], true, false, Some, None, if◌then◌else◌, IfOk, IfSome, IfNone, IsErrOf};
 ghost use Rattle.kn_text.specs.Lines.{is_skipped, words_of};
 ghost use Rattle.kn_lines.specs.Lines.{SpellsLine, SpellsNone, IsWellFormed};

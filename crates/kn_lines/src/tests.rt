@@ -1,3 +1,4 @@
+//! Each kind of line read and written back, lines that are refused for one word, and lines that are skipped.
 ghost use Rattle.std.specs.Prelude.{◌≡◌, IfOk};
 ghost use Rattle.kn_lines.specs.Lines.{IsWellFormed};
 

@@ -1,3 +1,4 @@
+//! Writing a line, in one of the spellings that are read: one space between words, and no zeros in front.
 ghost use Rattle.std.specs.Prelude.{◌≡◌, ◌<◌, ◌^◌, ◌++◌, OnOk, IfOk};
 ghost use Rattle.kn_text.specs.Lines.{line_text};
 ghost use Rattle.kn_text.specs.Numbers.{literal_word, IsWritable};
@@ -160,7 +161,7 @@ fn push_behind_space(out: &mut Vec<u8>, lit: Lit) -> Result<(), NoMemory>
     ensures text { OnOk result (out.new.items ≡ out.old.items ++ spaced (literal_word lit)) }
     ensures literal { OnOk result (IsWritable lit) }
 {
-    // Its variable is a number of 64 bits that is at least 1, as that of each literal that is read.
+    // Gives the prover the range that `literal` asks for: a literal keeps that its variable is at least 1.
     prove!(lit.var() > 0);
     out.push(b' ')?;
     push_literal(out, lit)

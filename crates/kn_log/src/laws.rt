@@ -1,3 +1,4 @@
+//! How lines come together: those of two calls as those of one, a broken line behind others, and all as a proof.
 ghost use Rattle.std.specs.Prelude.{ℕ, ◌≡◌, ◌+◌, ◌<◌, ◌^◌, ◌∷◌, List, [], ◌++◌, length, Option, Ok, true, false};
 ghost use Rattle.kn_bytes.specs.Outside.{Got, GotPrefix};
 ghost use Rattle.kn_logic.specs.Formulas.{Problem};

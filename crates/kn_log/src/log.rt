@@ -1,3 +1,5 @@
+//! The log of a proof. A line steps before it is written, so that a sink that fails has the beginning of a proof;
+//! where memory is short nothing has happened.
 ghost use Rattle.std.specs.Prelude.{◌≡◌, ◌≤◌, ◌<◌, ◌+◌, ◌^◌, [], length, false, IfOk, IsOk, IfSome, IsErrOf, option_copied};
 ghost use Rattle.kn_logic.specs.Constraints.{IsWithin};
 ghost use Rattle.kn_bytes.specs.Outside.{Rose};

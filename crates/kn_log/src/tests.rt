@@ -1,3 +1,4 @@
+//! The texts that logs write to sinks in memory, which ids are live then, and what is left where a sink fails.
 ghost use Rattle.std.specs.Prelude.{◌≡◌, ◌≤◌, ◌∷◌, [], true, false, IfOk, IsSome};
 ghost use Rattle.kn_logic.specs.Constraints.{klause};
 ghost use Rattle.kn_lines.specs.declared.line.Arm.TheVariants as arm;

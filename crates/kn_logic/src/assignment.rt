@@ -1,3 +1,4 @@
+//! Assignments give each variable a value, also one that no constraint names: a model is printed whole.
 ghost use Rattle.std.specs.Prelude.{◌≡◌, ◌≤◌, ◌-◌, length, replicate, IfOk, slice_set};
 ghost use Rattle.kn_logic.specs.Assignments.{value_of};
 

@@ -1,3 +1,4 @@
+//! Clauses and klauses as one type, so that what holds, and what a hint forces, is said once for both.
 ghost use Rattle.std.specs.Prelude.{◌≡◌, IfOk};
 ghost use Rattle.kn_logic.specs.Constraints.{is_clause, klause, guarded_klause};
 

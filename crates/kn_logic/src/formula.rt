@@ -1,3 +1,4 @@
+//! Formulas. That constraints fit the variables is kept by the type, so that no user of a formula tests it again.
 ghost use Rattle.std.specs.Prelude.{◌≡◌, ◌++◌, ◌∷◌, [], length, IfOk, IfSome, OnOk, OnErr, slice_get, option_copied};
 ghost use Rattle.kn_logic.specs.Constraints.{Fits};
 ghost use Rattle.kn_logic.specs.Formulas.{Problem, IsFormula};

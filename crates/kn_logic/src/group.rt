@@ -1,3 +1,4 @@
+//! Groups: what is guessed, eliminated, judged, replaced and justified, each in a crate above, over this one type.
 ghost use Rattle.std.specs.Prelude.{◌≡◌};
 ghost use Rattle.kn_logic.specs.Groups.{Gathered, IsGroup};
 

@@ -9,7 +9,7 @@ mod constraint;
 mod formula;
 mod group;
 mod lit;
-mod meaning;
+mod meaning; // `holds` and `satisfies`
 
 pub use assignment::Assignment;
 pub use constraint::Constraint;

@@ -1,3 +1,4 @@
+//! Literals: a variable and a sign, not one signed number, so that no literal is 0 and none lacks a negation.
 ghost use Rattle.std.specs.Prelude.{◌≡◌, ◌≤◌};
 ghost use Rattle.kn_logic.specs.Literals.{Literal, negated};
 

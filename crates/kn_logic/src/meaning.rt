@@ -1,3 +1,4 @@
+//! The meaning of constraints and formulas, computed, for whoever holds a model against a formula, as tests do.
 ghost use Rattle.std.specs.Prelude.{◌≡◌, ◌≤◌, ◌↔◌, length, IsTrue, IfSome};
 ghost use Rattle.std.specs.List.{AllByRecursion};
 ghost use Rattle.kn_logic.specs.Literals.{IsKnown, AreKnown};

@@ -1,3 +1,4 @@
+//! Calls on each type: klauses with and without a guard at different bounds, copies, formulas, models and groups.
 ghost use Rattle.std.specs.Prelude.{◌≡◌, ◌∷◌, [], length, IfOk};
 ghost use Rattle.kn_logic.specs.Literals.{IsKnown, AreKnown};
 ghost use Rattle.kn_logic.specs.Constraints.{clause, Fits};

@@ -1,4 +1,4 @@
-//! How a propagation ended.
+//! The two ends of a propagation, which are all that a search asks it for.
 
 /// How a propagation ended.
 #[derive(Clone, Copy, Debug, PartialEq, Eq)]

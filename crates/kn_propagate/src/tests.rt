@@ -10,6 +10,8 @@ ghost use Rattle.kn_watch.specs.Watches.{listed, lit_at, HasWatches, IsStart, Is
 ghost use Rattle.kn_watch.specs.Quiet.{quiet_law};
 ghost use Rattle.kn_propagate.specs.Engines.{live_in, IsNoReason};
 
+mod load;
+
 use super::*;
 use kn_kinds::{CardWatch, ClauseWatch, GuardWatch, KlauseWatch};
 use kn_logic::{Constraint, Lit};
@@ -18,11 +20,16 @@ use std::alloc::Global;
 use std::cell::Cell;
 use std::test::Fail;
 
-/// How often constraints were called, and how often one answered what counting does not say.
+/// How often constraints were called, and how often one answered what counting does not say; and how often
+/// something was closed, in conflict, added above level 0 and removed.
 #[derive(Drop)]
 struct Tally {
     calls: Cell<u64>,
     wrong: Cell<u64>,
+    closed: Cell<u64>,
+    conflicts: Cell<u64>,
+    late: Cell<u64>,
+    removed: Cell<u64>,
 }
 
 impl Tally {
@@ -30,11 +37,15 @@ impl Tally {
         Tally {
             calls: Cell::new(0),
             wrong: Cell::new(0),
+            closed: Cell::new(0),
+            conflicts: Cell::new(0),
+            late: Cell::new(0),
+            removed: Cell::new(0),
         }
     }
 
     fn called(&self) {
-        self.calls.set(self.calls.get().saturating_add(1));
+        one_more(&self.calls);
     }
 
     // counts all places at a visit
@@ -46,9 +57,20 @@ impl Tally {
             Visit::Moved { .. } => true,
         };
         if !fits {
-            self.wrong.set(self.wrong.get().saturating_add(1));
+            one_more(&self.wrong);
         }
     }
+
+    // whether each thing happened often
+    fn is_rich(&self) -> bool {
+        let least = self.closed.get().min(self.conflicts.get());
+        least.min(self.late.get()).min(self.removed.get()) >= 100
+    }
+}
+
+// counts one more
+fn one_more(cell: &Cell<u64>) {
+    cell.set(cell.get().saturating_add(1));
 }
 
 /// A constraint of another kind whose calls are counted, and which counts all its places at each visit.
@@ -331,6 +353,9 @@ impl<'a> Trial<'a> {
             }
             self.engine.add_klause(w, id)?;
         }
+        if self.engine.trail().level() > 0 {
+            one_more(&tally.late);
+        }
         self.live.push(Known { id, constraint })?;
         self.next = self.next.saturating_add(1);
         Ok(())
@@ -350,6 +375,7 @@ impl<'a> Trial<'a> {
             return true;
         }
         self.live.swap_remove(at);
+        one_more(&self.tally.removed);
         self.engine.remove(id) && self.engine.lits_of(id).is_none()
     }
 
@@ -359,15 +385,17 @@ impl<'a> Trial<'a> {
         let closed = close(&self.live, &mut plain);
         match self.engine.propagate() {
             Step::Closed => {
+                one_more(&self.tally.closed);
                 let same = are_same(self.engine.trail(), &plain);
                 if is_free(self.engine.trail(), lit) {
                     self.engine.assume(lit);
                 }
                 Ok(closed && same)
             }
-            Step::Conflict { id } => Ok(
-                !closed && is_violated(&self.live, id, self.engine.trail()),
-            ),
+            Step::Conflict { id } => {
+                one_more(&self.tally.conflicts);
+                Ok(!closed && is_violated(&self.live, id, self.engine.trail()))
+            }
         }
     }
 }
@@ -516,7 +544,7 @@ fn propagation_is_plain_counting(rt: HostRuntime) -> Result<(), Fail> {
             }
         }
     }
-    assert_eq!(rt; tally.wrong.get(), 0);
+    assert_eq!(rt; (tally.wrong.get(), tally.is_rich()), (0, true));
     Ok(())
 }
 
@@ -529,20 +557,25 @@ fn at_least(alloc: Global, bound: u64, numbers: &[i64]) -> Result<Constraint, No
     Ok(Constraint::new(bound, lits))
 }
 
+// makes a literal true, and all that it forces; none where it has a value, or something is in conflict before
+fn decide(trial: &mut Trial, lit: Lit) -> Option<Step> {
+    let engine = &mut trial.engine;
+    if engine.propagate() != Step::Closed || !is_free(engine.trail(), lit) {
+        return None;
+    }
+    engine.assume(lit);
+    Some(engine.propagate())
+}
+
 // removes a constraint; whether the engine answers right, and the first variable then leads to this step
 fn leads_to(trial: &mut Trial, id: u64, step: Step) -> bool {
     let engine = &mut trial.engine;
     let known = engine.lits_of(id).is_some();
-    let lit = Lit::new(1, true);
     if is_reason(engine.trail(), id) || engine.remove(id) != known {
         return false;
     }
-    if engine.propagate() != Step::Closed || !is_free(engine.trail(), lit) {
-        return false;
-    }
-    engine.assume(lit);
-    let right = engine.propagate() == step;
-    engine.back_to(0);
+    let right = decide(trial, Lit::new(1, true)) == Some(step);
+    trial.engine.back_to(0);
     right
 }
 
@@ -555,11 +588,12 @@ fn small<'a>(alloc: Global, tally: &'a Tally) -> Result<Trial<'a>, NoMemory> {
     Ok(trial)
 }
 
-// how many literals the constraint of an id has; 0 where there is none
-fn size_of(trial: &Trial, id: u64) -> usize {
+// whether a live constraint has this id, and the literals of these numbers
+fn lists(alloc: Global, trial: &Trial, id: u64, numbers: &[i64]) -> Result<bool, NoMemory> {
+    let want = at_least(alloc, 0, numbers)?;
     match trial.engine.lits_of(id) {
-        Some(lits) => lits.len(),
-        None => 0,
+        Some(lits) => Ok(lits == want.lits()),
+        None => Ok(false),
     }
 }
 
@@ -567,11 +601,35 @@ fn size_of(trial: &Trial, id: u64) -> usize {
 fn each_call_answers(rt: HostRuntime) -> Result<(), Fail> {
     let tally = Tally::new();
     let mut trial = small(rt.alloc(), &tally)?;
-    assert_eq!(rt; trial.engine.vars(), 5);
-    assert_eq!(rt; size_of(&trial, 2), 3);
+    assert_eq!(rt; (trial.engine.vars(), trial.engine.trail().vars()), (5, 5));
+    assert!(rt; lists(rt.alloc(), &trial, 2, &[-2, 3, 4])?);
     assert!(rt; leads_to(&mut trial, 4, Step::Conflict { id: 3 }));
     assert!(rt; leads_to(&mut trial, 3, Step::Closed));
-    assert_eq!(rt; size_of(&trial, 3), 0);
+    assert!(rt; trial.engine.lits_of(3).is_none());
     assert_eq!(rt; trial.engine.trail().len(), 0);
+    Ok(())
+}
+
+#[test]
+fn going_back_keeps_the_lower_levels(rt: HostRuntime) -> Result<(), Fail> {
+    let tally = Tally::new();
+    let mut trial = small(rt.alloc(), &tally)?;
+    assert_eq!(rt; decide(&mut trial, Lit::new(5, true)), Some(Step::Closed));
+    assert_eq!(rt; decide(&mut trial, Lit::new(2, false)), Some(Step::Closed));
+    let trail = trial.engine.trail();
+    assert_eq!(rt;
+        (trail.level_of(5), trail.level_of(2), trail.level_of(1)),
+        (Some(1), Some(2), Some(2))
+    );
+    assert_eq!(rt;
+        (trail.reason_of(5), trail.reason_of(2), trail.reason_of(1)),
+        (None, None, Some(1))
+    );
+    let level = trail.level().min(1);
+    trial.engine.back_to(level);
+    let trail = trial.engine.trail();
+    assert_eq!(rt; (trail.len(), trail.level()), (1, 1));
+    assert_eq!(rt; trail.value(Lit::new(5, true)), Some(true));
+    assert_eq!(rt; trial.engine.propagate(), Step::Closed);
     Ok(())
 }

@@ -1,3 +1,4 @@
+//! A finished elimination. All its nodes are of one table, so that proofs and models can be made of it afterwards.
 ghost use Rattle.std.specs.Prelude.{◌≡◌, All};
 ghost use Rattle.kn_diagram.specs.Diagrams.{IsNode};
 ghost use Rattle.kn_quant.specs.Eliminations.{IsElimination, IsThere};

@@ -1,7 +1,10 @@
+//! Why an elimination stopped. Which stage is the first wide one is a matter of the group, not of how it is computed.
 ghost use Rattle.kn_quant.specs.declared.error.QuantError.TheVariants.{Memory};
 
 use kn_logic::NoMemory;
 use std::alloc::AllocFailed;
+use std::error::Error;
+use std::fmt;
 
 /// Why an elimination was not done.
 #[derive(Clone, Copy, Debug, PartialEq, Eq)]
@@ -13,6 +16,22 @@ pub enum QuantError {
     /// Memory ran out.
     Memory,
 }
+
+impl fmt::Display for QuantError {
+    fn fmt<W: fmt::Write>(&self, f: &mut fmt::Formatter<W>) -> fmt::Result {
+        match self {
+            QuantError::Wide { stage, level } => {
+                write!(
+                    f,
+                    "the function of stage {stage} is wide at variable {level}"
+                )
+            }
+            QuantError::Memory => write!(f, "memory is short"),
+        }
+    }
+}
+
+impl Error for QuantError {}
 
 impl From<NoMemory> for QuantError {
     ghost use Rattle.std.specs.Prelude.{◌≡◌};

@@ -1,3 +1,4 @@
+//! What holds of runs by their definition: a group has one, buckets rebuild the values, and small groups stay narrow.
 ghost use Rattle.std.specs.Prelude.{ℕ, ◌≡◌, ◌+◌, ◌≤◌, Bool, true, List, length, map};
 ghost use Rattle.std.specs.List.{AllByRecursion};
 ghost use Rattle.kn_logic.specs.Groups.{Gathered, IsGroup};

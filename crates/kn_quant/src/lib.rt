@@ -9,8 +9,8 @@ mod elimination;
 mod error;
 mod laws;
 mod piece;
-mod quantify;
-mod run;
+mod quantify; // `exists`
+mod run; // `eliminate`
 mod stage;
 #[cfg(test)]
 mod tests;

@@ -1,3 +1,4 @@
+//! A piece notes its bucket when it is made, so that no later turn has to look through its diagram again.
 ghost use Rattle.std.specs.Prelude.{◌≡◌};
 ghost use Rattle.kn_quant.specs.Pieces.{is_marked};
 

@@ -1,3 +1,4 @@
+//! Quantifying a variable in a diagram: nodes above it are made anew, at it both halves are joined, below all stays.
 ghost use Rattle.std.specs.Prelude.{ℕ, ◌≡◌, ◌<◌, ◌≤◌, ◌||◌, ◌++◌, Bool, [], ◌∷◌, None, length, slice_index, OnOk, OnErr, IfOk, IfErr};
 ghost use Rattle.kn_diagram.specs.Diagrams.{IsNode, IsBranch, Keeps, depth_in, depth_of, function_of};
 ghost use Rattle.kn_diagram.specs.Traces.{AreExplained, found};

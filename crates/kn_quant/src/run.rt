@@ -1,3 +1,4 @@
+//! Bucket elimination of a group's auxiliary variables. Each choice has an order, so that a group has one run.
 ghost use Rattle.std.specs.Prelude.{ℕ, ◌≡◌, ◌<◌, [], ◌∷◌, true, length, nat_eq, IfOk, IfErr, OnOk};
 ghost use Rattle.std.specs.List.{AllByRecursion, IsDistinct};
 ghost use Rattle.kn_logic.specs.Constraints.{is_clause};

@@ -1,3 +1,4 @@
+//! What is kept of an elimination: stages with their traces, for a proof, and buckets, for the values of a model.
 use kn_diagram::{Node, Trace};
 
 /// An entry of an elimination: a node, and how it came.

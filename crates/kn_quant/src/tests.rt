@@ -1,3 +1,4 @@
+//! Quantification against lists of sixteen values, and the stages, buckets and result of one small elimination.
 ghost use Rattle.std.specs.Prelude.{◌≡◌, [], ◌∷◌, IfOk};
 ghost use Rattle.kn_diagram.specs.Diagrams.{IsNode, Keeps};
 ghost use Rattle.kn_logic.specs.Constraints.{clause};

@@ -2,7 +2,7 @@
 //! of the formula. The layer above uses `rebuild`; the rule that gives each value is in `specs/Rebuilding`.
 #![tactic(auto)]
 
-mod groups;
+mod groups; // `rebuild`
 mod variables;
 
 pub use groups::rebuild;

@@ -1,3 +1,4 @@
+//! The literals of a run of hints, with marks by variable: a question costs one step, clearing as many as were added.
 ghost use Rattle.std.specs.Prelude.{◌≡◌, ◌+◌, ◌-◌, ◌++◌, ◌∷◌, [], List, length, min, filter, slice_set, IfOk, OnOk, OnErr, MatchOption};
 ghost use Rattle.kn_logic.specs.Literals.{Literal, IsKnown, AreKnown, has, names};
 ghost use Rattle.kn_logic.specs.Propagation.{is_open, open_places};

@@ -1,3 +1,4 @@
+//! The checker for those who make proofs line by line. It lends constraints, so it keeps more than `check` needs.
 ghost use Rattle.std.specs.Prelude.{◌≡◌, ◌≤◌, ◌<◌, ◌+◌, ◌++◌, ◌∷◌, ◌^◌, [], length, vec_capacity, Ok, Err, IfOk, IfSome, IsOk, OnOk, OnErr, option_copied, if◌then◌else◌};
 ghost use Rattle.kn_logic.specs.Constraints.{IsWithin};
 ghost use Rattle.kn_lines.specs.Lines.{IsWellFormed};
@@ -14,6 +15,8 @@ use crate::{Definition, cause};
 use kn_lines::{Arm, Line};
 use kn_logic::{Constraint, Formula, Lit, NoMemory};
 use std::alloc::{AllocError, AllocFailed, Global};
+use std::error::Error;
+use std::fmt;
 use std::marker::Model;
 
 /// Why a line was not taken.
@@ -24,6 +27,35 @@ pub enum FeedError {
     /// Want of memory.
     Memory,
 }
+
+impl fmt::Display for FeedError {
+    fn fmt<W: fmt::Write>(&self, f: &mut fmt::Formatter<W>) -> fmt::Result {
+        match self {
+            FeedError::Wrong(cause::WRONG_HEADER) => write!(f, "a header behind the first line"),
+            FeedError::Wrong(cause::UNKNOWN_VARIABLE) => write!(f, "an unknown variable"),
+            FeedError::Wrong(cause::NOT_LIVE) => write!(f, "an id that is not live"),
+            FeedError::Wrong(cause::NO_CONFLICT) => write!(f, "hints without a conflict"),
+            FeedError::Wrong(cause::WRONG_UNIT) => write!(
+                f,
+                "a unit clause that is not the root's"
+            ),
+            FeedError::Wrong(cause::WRONG_ROOT) => write!(
+                f,
+                "a root that does not stand for the grid"
+            ),
+            FeedError::Wrong(cause::NOT_PLAIN) => {
+                write!(
+                    f,
+                    "a klause that names a variable twice, or an unfolded one with a guard"
+                )
+            }
+            FeedError::Wrong(why) => write!(f, "a wrong line, of cause {why}"),
+            FeedError::Memory => write!(f, "memory is short"),
+        }
+    }
+}
+
+impl Error for FeedError {}
 
 impl From<AllocError> for FeedError {
     ghost from_gives = { λ _ e. e ≡ Memory };

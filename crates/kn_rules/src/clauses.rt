@@ -1,3 +1,4 @@
+//! A constraint from a list of literals, and whether one is a unit clause, for the lines that name a root.
 ghost use Rattle.std.specs.Prelude.{◌≡◌, IfOk};
 ghost use Rattle.kn_logic.specs.Constraints.{klause};
 ghost use Rattle.kn_rules.specs.Steps.{is_unit};

@@ -1,3 +1,4 @@
+//! The one kind of definition, by cases: a node of a decision diagram, as a new variable (extended resolution).
 use kn_lines::Arm;
 use kn_logic::Lit;
 

@@ -1,3 +1,4 @@
+//! Definitions by variable. Defined variables are numbered on from those of the formula, so that a list is enough.
 ghost use Rattle.std.specs.Prelude.{◌≡◌, ◌≤◌, ◌+◌, ◌++◌, ◌∷◌, ◌^◌, [], length, OnOk, OnErr, option_map, slice_get};
 ghost use Rattle.kn_rules.specs.States.{looked_up};
 ghost use Rattle.kn_rules.specs.Entries.{variable_of};

@@ -1,3 +1,4 @@
+//! Deleting the ids of a line one after another, so that one named twice is a fault; the others are put back then.
 ghost use Rattle.std.specs.Prelude.{◌≡◌, ◌≤◌, [], Ok, Err, true, false, IfSome, IfNone, IsOk, length, vec_capacity};
 ghost use Rattle.kn_rules.specs.Causes.{not_live};
 ghost use Rattle.kn_rules.specs.Restoring.{slot_at, without_slot, deleted_slots, put, restored};

@@ -1,3 +1,4 @@
+//! What is asked of one level of a grid, each variable once: a node that is reached by many paths is looked at once.
 ghost use Rattle.std.specs.Prelude.{◌≡◌, [], length, slice_get, IfOk};
 ghost use Rattle.kn_rules.specs.Demands.{count_of, agrees, with_demand};
 

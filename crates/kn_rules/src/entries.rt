@@ -1,3 +1,4 @@
+//! The table of ids: constraints are found and given here, and the ids of a line are deleted together or not at all.
 ghost use Rattle.std.specs.Prelude.{◌≡◌, ◌≤◌, ◌<◌, ◌+◌, ◌++◌, ◌∷◌, ◌^◌, [], map, length, vec_capacity, IfOk, OnOk, OnErr, IsOk, Ok, Some, option_copied, option_map, slice_get};
 ghost use Rattle.kn_rules.specs.States.{Defined, from_file, live_at};
 ghost use Rattle.kn_rules.specs.Steps.{deleted, by_definition, definition_clauses};

@@ -1,3 +1,4 @@
+//! The constraints of a definition as values, for a `Checker` alone: what is made on demand cannot be lent.
 ghost use Rattle.std.specs.Prelude.{◌≡◌, IfOk};
 ghost use Rattle.kn_rules.specs.Lent.{four_of, kept_at};
 

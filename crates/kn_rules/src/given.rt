@@ -1,3 +1,4 @@
+//! What ids stand for, with what gave them: soundness asks for no origin, but the limits on a search do.
 use kn_logic::Constraint;
 
 /// What gave an id.

@@ -1,3 +1,4 @@
+//! Whether definitions spell the grid of a count, by a walk over its levels: of paths through it there are too many.
 ghost use Rattle.std.specs.Prelude.{◌≡◌, ◌≤◌, ◌<◌, ◌-◌, ◌&&◌, ◌∷◌, ℕ, Option, IfOk, if◌then◌else◌, false};
 ghost use Rattle.kn_logic.specs.Literals.{is_same};
 ghost use Rattle.kn_rules.specs.Grids.{stands_for, is_root};

@@ -1,3 +1,4 @@
+//! Reverse unit propagation over the hints of a line alone, in their order: nothing is searched for.
 ghost use Rattle.std.specs.Prelude.{◌≡◌, ◌++◌, [], map, Some, None, true, IfOk, OnOk, option_map, if◌then◌else◌};
 ghost use Rattle.std.specs.Option.{is_none};
 ghost use Rattle.kn_logic.specs.Literals.{IsKnown, AreKnown, negated};

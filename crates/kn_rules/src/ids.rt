@@ -1,3 +1,4 @@
+//! The hints behind a conflict are not run, but they are to be live too: a line is judged whole.
 ghost use Rattle.std.specs.Prelude.{◌≡◌};
 ghost use Rattle.std.specs.Option.{is_some};
 ghost use Rattle.kn_rules.specs.Steps.{hinted};

@@ -1,3 +1,4 @@
+//! Tests of a line's variables: known ones, and no two alike, in time that grows with the literals alone.
 ghost use Rattle.std.specs.Prelude.{◌≡◌, ◌&&◌, [], IfOk, option_map};
 ghost use Rattle.std.specs.Option.{is_none};
 ghost use Rattle.kn_logic.specs.Literals.{AreKnown};

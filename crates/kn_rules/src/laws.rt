@@ -1,3 +1,4 @@
+//! Laws of the checker: an accepted proof refutes its formula, a text has one answer, and searches learn few clauses.
 ghost use Rattle.std.specs.Prelude.{◌≡◌, ◌≤◌, ◌<◌, ◌+◌, ◌++◌, ◌∷◌, ◌^◌, ℕ, List, [], Option, Ok, Some, length, true, false};
 ghost use Rattle.kn_logic.specs.Literals.{Literal};
 ghost use Rattle.kn_logic.specs.Formulas.{Problem, IsFormula, IsUnsatisfiable};

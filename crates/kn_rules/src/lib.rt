@@ -32,7 +32,7 @@ mod machine;
 mod made;
 mod packed;
 mod slot;
-mod whole;
+mod whole; // `check`
 
 pub use assumed::Assumed;
 pub use checker::{Checker, FeedError};

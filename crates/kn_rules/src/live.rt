@@ -1,3 +1,4 @@
+//! A constraint as it is looked at, whether it is kept or was just made of a definition: hints are run over either.
 ghost use Rattle.std.specs.Prelude.{◌≡◌};
 ghost use Rattle.kn_logic.specs.Constraints.{is_clause};
 ghost use Rattle.kn_rules.specs.Entries.{bounded_of};

@@ -1,3 +1,4 @@
+//! The state of a proof, and the step of each kind of line. Causes are tested in a fixed order: the first is told.
 ghost use Rattle.std.specs.Prelude.{◌≡◌, ◌≤◌, ◌+◌, ◌^◌, ◌&&◌, length, Ok, Err, IfOk, IfSome, IsOk, OnOk, OnErr, option_copied, if◌then◌else◌};
 ghost use Rattle.kn_logic.specs.Constraints.{clause, klause, IsWithin};
 ghost use Rattle.kn_lines.specs.Lines.{IsWellFormed};
@@ -293,7 +294,7 @@ impl Machine {
         is_root(self.alloc, self.entries.definitions(), lits, bound, root)
     }
 
-    /// The same of the grid of a live id's constraint.
+    /// The same of the grid of a live id's constraint. Of another id nothing is said, and nobody asks.
     fn is_root_of(&self, id: u64, root: u64) -> Result<bool, NoMemory>
         ensures { IfOk result (λ yes. IfSome (live_at self.now.given id) (λ c. yes ≡ is_root (definition_of self.now) c.lits c.bound root)) }
     {

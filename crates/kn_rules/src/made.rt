@@ -1,3 +1,4 @@
+//! The constraints of a definition, made where they are asked for: of three literals at most, so without memory.
 ghost use Rattle.std.specs.Prelude.{◌≡◌, ◌∷◌, [], IfOk};
 ghost use Rattle.kn_rules.specs.Steps.{with_arm, opposite};
 ghost use Rattle.kn_rules.specs.Entries.{bounded_of, clause_at};

@@ -1,3 +1,4 @@
+//! Definitions as they are kept: a proof's definitions stay to its end, so their size decides which proofs fit.
 ghost use Rattle.std.specs.Prelude.{◌≡◌, ◌≤◌};
 ghost use Rattle.kn_rules.specs.Packing.{arm_by};
 

@@ -1,3 +1,4 @@
+//! The entry of one id. There is one for each id that was ever given, deleted ones too, so it is kept small.
 ghost use Rattle.std.specs.Prelude.{◌≡◌};
 ghost use Rattle.kn_rules.specs.Entries.{origin_of};
 

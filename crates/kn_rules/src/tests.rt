@@ -1,3 +1,4 @@
+//! Proofs that are accepted, lines with each cause and with several, and what a definition gives, read back.
 ghost use Rattle.std.specs.Prelude.{◌≡◌, ◌≤◌, ◌^◌, ◌∷◌, [], IfOk};
 ghost use Rattle.kn_logic.specs.Constraints.{clause, klause, guarded_klause};
 

@@ -1,3 +1,4 @@
+//! The text of a proof as a whole: its header has to fit the formula, and the first line that is wrong ends it.
 ghost use Rattle.std.specs.Prelude.{◌≡◌, ◌≤◌, ◌<◌, ◌+◌, ◌^◌, ◌↔◌, IfOk, IsTrue, length};
 ghost use Rattle.kn_logic.specs.Formulas.{IsFormula, IsUnsatisfiable};
 ghost use Rattle.kn_text.specs.Lines.{lines_of, words_of, content_from};

@@ -1,3 +1,4 @@
+//! That a search ends: its learned clauses are all new, so there are fewer of them than a large budget allows.
 ghost use Rattle.std.specs.Prelude.{ℕ, ◌≡◌, List, [], Option};
 ghost use Rattle.kn_rules.specs.Searching.{learned_live};
 ghost use Rattle.kn_log.specs.Logs.{Logged};

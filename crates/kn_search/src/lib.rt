@@ -14,7 +14,7 @@ mod forgetting;
 mod guide;
 mod heap;
 mod laws;
-mod loading;
+mod loading; // `engine_of`
 mod outcome;
 mod restarts;
 mod searching;

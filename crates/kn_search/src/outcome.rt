@@ -1,3 +1,4 @@
+//! What is asked of a search, and what comes of it. A spent budget is an outcome; want of memory is an error.
 ghost use Rattle.std.specs.Prelude.{◌≡◌};
 ghost use Rattle.kn_search.specs.Outcomes.{error_of};
 ghost use Rattle.kn_search.specs.declared.outcome.SearchError.TheVariants.{Memory};
@@ -5,6 +6,8 @@ ghost use Rattle.kn_search.specs.declared.outcome.SearchError.TheVariants.{Memor
 use kn_log::LogError;
 use kn_logic::Assignment;
 use std::alloc::AllocError;
+use std::error::Error;
+use std::fmt;
 
 /// How far a search goes.
 #[derive(Clone, Copy, Debug)]
@@ -34,6 +37,17 @@ pub enum SearchError {
     /// The sink of the proof failed.
     WriteFault,
 }
+
+impl fmt::Display for SearchError {
+    fn fmt<W: fmt::Write>(&self, f: &mut fmt::Formatter<W>) -> fmt::Result {
+        f.write_str(match self {
+            SearchError::Memory => "memory is short",
+            SearchError::WriteFault => "the proof could not be written",
+        })
+    }
+}
+
+impl Error for SearchError {}
 
 impl From<AllocError> for SearchError {
     ghost from_gives = { λ _ e. e ≡ Memory };

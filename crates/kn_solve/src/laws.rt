@@ -1,3 +1,4 @@
+//! That solving ends, by what its proof looks like: learned clauses, forgotten ones counted, are fewer than a bound.
 ghost use Rattle.std.specs.Prelude.{ℕ, ◌≡◌, ◌<◌, ◌^◌, List};
 ghost use Rattle.kn_logic.specs.Formulas.{Problem};
 ghost use Rattle.kn_lines.specs.declared.line.Line.{Line};

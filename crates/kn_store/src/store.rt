@@ -1,3 +1,4 @@
+//! The store: constraints by id and ids by variable, two tables that change together or not at all.
 ghost use Rattle.std.specs.Prelude.{◌≡◌, ◌≤◌, ◌<◌, ◌+◌, ◌^◌, ◌==◌, ◌++◌, ◌∷◌, [], not, false, filter, length, IfOk, OnOk, OnErr, option_copied};
 ghost use Rattle.std.specs.Option.{is_some};
 ghost use Rattle.kn_logic.specs.Constraints.{Fits};

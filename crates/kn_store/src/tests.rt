@@ -1,3 +1,4 @@
+//! Constraints that come and go, and ids that leave in any order, so that each side of a list of ids moves.
 ghost use Rattle.std.specs.Prelude.{◌≡◌, ◌∷◌, [], IfOk};
 ghost use Rattle.kn_logic.specs.Constraints.{clause};
 

@@ -2,3 +2,4 @@ pub mod Bits
 pub mod Places
 pub mod Tabled
 pub mod FourWords
+pub mod Public

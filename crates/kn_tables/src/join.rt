@@ -1,3 +1,4 @@
+//! "And" and "or" of two tables, word by word: no index matters here, so that lanes serve as well as single words.
 ghost use Rattle.std.specs.Prelude.{◌≡◌, ◌≤◌, ◌<◌, ◌+◌, ◌*◌, ℕ, length, slice_index};
 ghost use Rattle.kn_tables.specs.Words.{joined, AreJoined};
 

@@ -1,3 +1,4 @@
+//! Four words at once: all vector code is here, and its contracts say what happens to each word.
 ghost use Rattle.std.specs.Prelude.{◌≡◌, ◌≤◌, ◌<◌, ◌+◌, ℕ, length, slice_index, IsTrue};
 ghost use Rattle.kn_tables.specs.Words.{joined, folded, HasLanes, IsBlock};
 

@@ -1,3 +1,4 @@
+//! Setting one variable in an index leaves all others as they are, for those who reason about tables by indices.
 ghost use Rattle.std.specs.Prelude.{◌≡◌, ◌==◌, ℕ, Bool, if◌then◌else◌};
 ghost use Rattle.kn_tables.specs.Indices.{has_bit, index_with};
 

@@ -1,3 +1,4 @@
+//! "For some value of a variable": below variable 6 by masks and shifts within words, else by pairs of words.
 ghost use Rattle.std.specs.Prelude.{◌≡◌, ◌≤◌, ◌<◌, ◌+◌, ◌*◌, ◌^◌, ◌||◌, ℕ, Bool, true, false, not, length, slice_index};
 ghost use Rattle.kn_tables.specs.Indices.{has_bit, index_with};
 ghost use Rattle.kn_tables.specs.Tables.{some_value_at};

@@ -1,3 +1,4 @@
+//! Tables in an array of their own, so that no call takes memory. No answer depends on bits past the last index.
 ghost use Rattle.std.specs.Prelude.{◌≡◌, ◌≤◌, ◌<◌, ◌^◌, ◌&&◌, ◌||◌, ◌↔◌, count_by, nat_le, IfSome, IsNone};
 ghost use Rattle.std.specs.List.{list_any};
 ghost use Rattle.kn_tables.specs.Tables.{IsTable, AreBelow, is_true_at, value_at, some_value_at, IsFirstDifference};

@@ -1,3 +1,4 @@
+//! Each call on tables of none to 12 variables, in one word and in many, against plain lists of truth values.
 ghost use Rattle.std.specs.Prelude.{◌≡◌, ◌≤◌, ◌<◌, ◌^◌, true, false, IsTrue};
 ghost use Rattle.kn_tables.specs.Tables.{AreBelow};
 

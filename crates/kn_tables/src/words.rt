@@ -1,3 +1,4 @@
+//! The words of tables, 64 indices each: that of a clause or a count, and the first one in which two tables differ.
 ghost use Rattle.std.specs.Prelude.{◌≡◌, ◌≢◌, ◌≤◌, ◌<◌, ◌+◌, ◌*◌, ◌^◌, ℕ, length, slice_index, count_by, nat_le};
 ghost use Rattle.std.specs.List.{list_any};
 ghost use Rattle.kn_tables.specs.Indices.{has_bit};

@@ -1,3 +1,4 @@
+//! That reading undoes writing, for lines, numbers and literals: what the contracts of whole texts above rest on.
 ghost use Rattle.std.specs.Prelude.{ℕ, ◌≡◌, ◌+◌, ◌<◌, ◌^◌, ◌++◌, if◌then◌else◌, List, [], ◌∷◌, map, slice_index, true, false, decimal};
 ghost use Rattle.std.specs.List.{AllByRecursion, flat_map, join_with_byte};
 ghost use Rattle.kn_logic.specs.Literals.{Literal};

@@ -1,3 +1,4 @@
+//! Cutting lines and words from the front of a text. Nothing is copied: what is cut and what is left are slices.
 ghost use Rattle.std.specs.Prelude.{◌≡◌, ◌<◌, ◌≤◌, ◌==◌, List, [], ◌∷◌, not, length, IfNone, IfSome};
 ghost use Rattle.std.specs.List.{prefix_len};
 ghost use Rattle.kn_text.specs.Lines.{HasNoFeed, is_blank, is_skipped, lines_of, words_of};

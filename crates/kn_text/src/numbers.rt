@@ -1,3 +1,4 @@
+//! Numbers and literals as words. What needs more than 64 bits is no number at all, and never a smaller one.
 ghost use Rattle.std.specs.Prelude.{◌≡◌, ◌<◌, ◌+◌, ◌++◌, decimal, length, vec_capacity, vec_len, OnErr, OnOk};
 ghost use Rattle.kn_text.specs.Numbers.{is_end, literal_from, literal_of, literal_word, number_of};
 

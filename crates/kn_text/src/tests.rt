@@ -1,3 +1,4 @@
+//! Lines, words, numbers and literals, among them those at the edge: no last line feed, zeros in front, 2^64 - 1.
 use super::*;
 use kn_logic::Lit;
 use std::test::Fail;

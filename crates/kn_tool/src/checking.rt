@@ -1,3 +1,4 @@
+//! The command `check`. The proof is not read before the formula is understood, so that one fault is told, the first.
 ghost use Rattle.std.specs.Prelude.{◌≡◌, ◌≤◌, ◌^◌};
 ghost use Rattle.kn_tool.specs.Changes.{source_change};
 ghost use Rattle.kn_tool.specs.Checks.{CheckRow, CheckedRow};

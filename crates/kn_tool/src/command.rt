@@ -1,3 +1,4 @@
+//! From words to a command. Words that fit no shape exactly ask for none: no default stands in for a bad number.
 ghost use Rattle.std.specs.Prelude.{◌≡◌, ◌↔◌, ℕ, List, IfSome, IfNone, IsTrue, codes, option_map};
 ghost use Rattle.kn_tool.specs.Words.{AsksCheck, AsksSolve, AsksExtract, AsksConvert, AsksTrim, AsksWork, HasShape, AsksFor, SpellsBlocks, SpellsOption, SpellsBoth, SpellsOptions, count_of, texts, asked_by};
 

@@ -1,3 +1,4 @@
+//! The command `convert`: a formula in clauses alone, for solvers that know no klauses.
 ghost use Rattle.std.specs.Prelude.{◌≡◌, ◌≤◌, length};
 ghost use Rattle.kn_format.specs.Grammar.{most_variables, most_constraints};
 ghost use Rattle.kn_tool.specs.Changes.{source_change};

@@ -1,3 +1,4 @@
+//! The command `extract`: klauses in place of the clauses that hide them. Models differ in auxiliary variables alone.
 ghost use Rattle.std.specs.Prelude.{◌≡◌, ◌≤◌};
 ghost use Rattle.kn_format.specs.Texts.{IsWithinLimits};
 ghost use Rattle.kn_tool.specs.Changes.{source_change};

@@ -1,3 +1,4 @@
+//! Reading a formula or a proof whole, up to a limit, and what each command replies where that fails.
 ghost use Rattle.std.specs.Prelude.{◌≡◌, ◌≤◌, IfOk, IfErr};
 ghost use Rattle.kn_tool.specs.Changes.{source_change, GivesAll};
 ghost use Rattle.kn_tool.specs.Files.{Accepts, UnreadRow, NoFormulaRow};

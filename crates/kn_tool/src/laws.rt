@@ -1,3 +1,4 @@
+//! The command line has one meaning: in whatever order the shapes of words are tried, the same command is found.
 ghost use Rattle.std.specs.Prelude.{◌≡◌, ℕ, List};
 ghost use Rattle.kn_tool.specs.Words.{Asked, HasShape};
 

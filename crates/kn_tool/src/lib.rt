@@ -8,7 +8,7 @@
 
 mod answer;
 mod checking;
-mod command;
+mod command; // `parse`
 mod converting;
 mod extracting;
 mod files;
@@ -16,7 +16,7 @@ mod laws;
 mod naming;
 mod reply;
 mod solving;
-mod top;
+mod top; // `run`
 mod trimming;
 mod working;
 

@@ -1,3 +1,4 @@
+//! Which files the words name, for the caller of `run`, who makes its sources and sinks of these and of no others.
 ghost use Rattle.std.specs.Prelude.{◌≡◌};
 ghost use Rattle.kn_tool.specs.Words.{Asked, HasShape, HasNoShape, texts, named_by, no_names, named_in};
 

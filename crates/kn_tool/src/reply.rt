@@ -1,3 +1,4 @@
+//! What a command hands back to be told. Its text is whole before it is written, so that short memory writes nothing.
 ghost use Rattle.kn_tool.specs.Replies.{IsPlain, IsShortMemory};
 
 use crate::Answer;

@@ -1,3 +1,4 @@
+//! The command `solve`: a model, or a proof that there is none, or neither within the limits that the words set.
 ghost use Rattle.std.specs.Prelude.{◌≡◌, ◌≤◌, ◌<◌, ◌^◌, length, None, IfOk, IfErr};
 ghost use Rattle.kn_format.specs.Texts.{IsWithinLimits};
 ghost use Rattle.kn_tool.specs.Changes.{source_change, sink_change};

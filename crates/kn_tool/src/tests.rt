@@ -1,3 +1,4 @@
+//! Each command but `work` through `run`, over sources and sinks in memory; written proofs are checked again.
 mod faults;
 mod solving;
 

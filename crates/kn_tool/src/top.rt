@@ -1,3 +1,4 @@
+//! `run`, the program but for its devices. No command writes its answer: all are told in one place, after the work.
 ghost use Rattle.std.specs.Prelude.{◌≡◌, ◌≤◌, Option, None, option_map};
 ghost use Rattle.kn_tool.specs.Words.{Asked, HasShape, HasNoShape, AsksFor, texts, asked_by, names_of};
 ghost use Rattle.kn_tool.specs.Changes.{source_change, sink_change};

@@ -1,3 +1,4 @@
+//! The command `trim`: the lines and hints of a proof that its refutation uses. A wrong proof is told as by `check`.
 ghost use Rattle.std.specs.Prelude.{◌≡◌, ◌≤◌, ◌^◌};
 ghost use Rattle.kn_tool.specs.Changes.{source_change};
 ghost use Rattle.kn_tool.specs.Trims.{TrimRow, TrimmedRow};

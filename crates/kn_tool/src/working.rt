@@ -1,3 +1,4 @@
+//! The command `work`: the whole way over a formula that is made and not read, whose counts are known beforehand.
 ghost use Rattle.std.specs.Prelude.{◌≡◌, ◌≤◌, ◌++◌, IfOk, OnOk};
 ghost use Rattle.kn_gen.specs.Blocks.{generated};
 ghost use Rattle.kn_tool.specs.Words.{most_blocks};

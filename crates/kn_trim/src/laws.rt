@@ -1,3 +1,4 @@
+//! Why trimming is sound, as laws: a conflict needs its used hints alone, and what is left of a proof is a proof.
 ghost use Rattle.std.specs.Prelude.{ℕ, ◌≡◌, List, true, map};
 ghost use Rattle.kn_logic.specs.Literals.{Literal, negated};
 ghost use Rattle.kn_logic.specs.Constraints.{Bounded};

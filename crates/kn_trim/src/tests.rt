@@ -1,3 +1,4 @@
+//! Small proofs with lines and hints that nothing needs, against the texts that are to be left of them.
 ghost use Rattle.std.specs.Prelude.{◌≡◌, ◌≤◌, ◌^◌, ◌∷◌, [], IfOk};
 ghost use Rattle.kn_logic.specs.Constraints.{clause, klause};
 

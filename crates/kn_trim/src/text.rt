@@ -1,4 +1,4 @@
-//! The text of a trimmed proof.
+//! What `trim` hands out: bytes that spell a proof again.
 ghost use Rattle.std.specs.Prelude.{◌≡◌};
 
 use std::marker::Model;

@@ -5,3 +5,6 @@ pub mod Borders
 pub mod Walks
 pub mod Bounds
 pub mod Deciding
+pub mod Indices
+pub mod Tabled
+pub mod Drawn

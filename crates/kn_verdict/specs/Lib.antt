@@ -1,3 +1,4 @@
 pub mod Cardinals
 pub mod Verdicts
 pub mod Numbers
+pub mod Numbered

@@ -1,3 +1,4 @@
+//! What is found of a group. Each answer but the klause has its reason with it, which can be looked at by hand.
 use kn_logic::Assignment;
 use kn_quant::Elimination;
 

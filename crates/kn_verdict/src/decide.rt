@@ -1,10 +1,12 @@
+//! From a group to its verdict: its clauses are eliminated and the result is measured; a count has no diagram here.
 ghost use Rattle.std.specs.Prelude.{◌≡◌, ◌≤◌, ◌+◌, length, IfOk};
 ghost use Rattle.kn_quant.specs.Eliminations.{IsEliminationOf};
-ghost use Rattle.kn_verdict.specs.Cardinals.{IsNarrow};
-ghost use Rattle.kn_verdict.specs.Verdicts.{IsVerdict};
+ghost use Rattle.kn_verdict.specs.Cardinals.{IsCardinal, IsNarrow};
+ghost use Rattle.kn_verdict.specs.Verdicts.{IsVerdict, IsInRange};
 ghost use Rattle.kn_verdict.specs.Numbers.{IsAtBorder, AreMeasured, IsMeasured};
 
 use crate::Verdict;
+use crate::few::{FEW, Said, said_by_table};
 use crate::fewest::Fewest;
 use crate::measure::measure;
 use crate::measures::Measures;
@@ -22,8 +24,43 @@ pub fn verdict(alloc: Global, group: &Group) -> Result<Verdict, NoMemory>
     requires aux { length group.now.aux ≤ 256 }
     ensures { IfOk result (IsVerdict group.now) }
 {
+    if group.aux().len() + group.border().len() <= FEW {
+        return of_few(alloc, group);
+    }
     match eliminate(alloc, group) {
         Ok(elimination) => decide(alloc, group, elimination),
+        Err(QuantError::Wide { stage, level }) => Ok(Verdict::Wide { stage, level }),
+        Err(QuantError::Memory) => Err(AllocError),
+    }
+}
+
+// The verdict on a group of few variables: its table tells it, and diagrams are made for a klause alone.
+fn of_few(alloc: Global, group: &Group) -> Result<Verdict, NoMemory>
+    requires border { 3 ≤ length group.now.border }
+    requires few { length group.now.aux + length group.now.border ≤ FEW }
+    ensures { IfOk result (IsVerdict group.now) }
+{
+    let n = group.border().len() as u64;
+    match said_by_table(alloc, group)? {
+        Said::Count { bound } => {
+            if bound < 2 || n <= bound {
+                Ok(Verdict::OutOfRange { bound })
+            } else {
+                klause(alloc, group, bound)
+            }
+        }
+        Said::Unlike { bound, values } => Ok(Verdict::NotCardinal { bound, values }),
+    }
+}
+
+// The verdict on a group that is known to count, with a bound in range: it is eliminated.
+fn klause(alloc: Global, group: &Group, bound: u64) -> Result<Verdict, NoMemory>
+    requires cardinal { IsCardinal group.now bound }
+    requires range { IsInRange group.now bound }
+    ensures { IfOk result (IsVerdict group.now) }
+{
+    match eliminate(alloc, group) {
+        Ok(elimination) => Ok(Verdict::Klause { bound, elimination }),
         Err(QuantError::Wide { stage, level }) => Ok(Verdict::Wide { stage, level }),
         Err(QuantError::Memory) => Err(AllocError),
     }

@@ -1,3 +1,4 @@
+//! Two numbers of a function by which a count is told: with n literals it is one exactly where their sum is above n.
 ghost use Rattle.std.specs.Prelude.{◌≡◌, ◌≤◌, ◌<◌, ◌+◌, ◌^◌};
 ghost use Rattle.kn_verdict.specs.Numbers.{joined_by, constant_of};
 

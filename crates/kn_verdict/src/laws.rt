@@ -1,3 +1,4 @@
+//! Verdicts are exact, as laws: a group has one possible bound, and the kind of answer is the one that fits it.
 ghost use Rattle.std.specs.Prelude.{ℕ, ◌≡◌, ◌≤◌, ◌⊎◌, length};
 ghost use Rattle.kn_logic.specs.Groups.{Gathered, IsGroup};
 ghost use Rattle.kn_quant.specs.Runs.{IsFirstWide};

@@ -1,3 +1,4 @@
+//! Measuring a function from the bottom up: the numbers of a node come from those of its two halves.
 ghost use Rattle.std.specs.Prelude.{◌≡◌, ◌≤◌, ◌⊎◌, ◌++◌, [], ◌∷◌, Some, length, map, slice_get, slice_index, if◌then◌else◌, IfOk, OnOk, OnErr};
 ghost use Rattle.kn_diagram.specs.Diagrams.{depth_of};
 ghost use Rattle.kn_verdict.specs.Numbers.{IsAtBorder, IsMeasured, AreMeasured};

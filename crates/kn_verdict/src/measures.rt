@@ -1,3 +1,4 @@
+//! The numbers of nodes that were measured, so that a node is measured once, by however many paths it is reached.
 ghost use Rattle.std.specs.Prelude.{◌≡◌, ◌++◌, [], ◌∷◌, None, OnOk, OnErr};
 ghost use Rattle.kn_verdict.specs.Numbers.{found};
 

@@ -1,4 +1,5 @@
-ghost use Rattle.std.specs.Prelude.{◌≡◌, [], ◌∷◌, true, false, length, IfOk};
+//! Groups with each answer but a wide stage, and drawn ones against all values of their six variables.
+ghost use Rattle.std.specs.Prelude.{◌≡◌, ◌≤◌, [], ◌∷◌, true, false, length, IfOk};
 ghost use Rattle.std.specs.List.{AllByRecursion};
 ghost use Rattle.kn_logic.specs.Constraints.{clause, is_clause};
 ghost use Rattle.kn_logic.specs.Groups.{IsCovered};
@@ -117,10 +118,11 @@ fn drawn_clause(alloc: Global, place: u64, a: Lit, b: Lit) -> Result<Constraint,
     Ok(Constraint::new(1, Vec::from_slice(alloc, &[c, d, e])?))
 }
 
-// A group of six clauses: at first a counter over -1, 2 and -3, of which some clauses are drawn anew.
-fn drawn_group(alloc: Global, number: u64) -> Result<Group, NoMemory>
+// A group of six clauses: at first a counter over -1, 2 and -3, of which some clauses are drawn anew. It has few
+// variables, or `many`.
+fn drawn_group(alloc: Global, number: u64, many: bool) -> Result<Group, NoMemory>
     ensures border { IfOk result (λ g. length g.border ≡ 3) }
-    ensures aux { IfOk result (λ g. length g.aux ≡ 3) }
+    ensures aux { IfOk result (λ g. length g.aux ≤ 10) }
 {
     let (x, y, z) = (Lit::new(1, false), Lit::new(2, true), Lit::new(3, false));
     let (four, five) = (Lit::new(4, true), Lit::new(5, true));
@@ -133,7 +135,11 @@ fn drawn_group(alloc: Global, number: u64) -> Result<Group, NoMemory>
         drawn_clause(alloc, at ^ 16, z, Lit::new(5, false))?,
         drawn_clause(alloc, at ^ 20, Lit::new(6, true), five)?,
     ]?;
-    group_of(alloc, taken)
+    if many {
+        group_of_many(alloc, taken)
+    } else {
+        group_of(alloc, taken)
+    }
 }
 
 // The group of these clauses, with -1, 2 and -3 as its border and 4, 5 and 6 as its auxiliary variables.
@@ -144,6 +150,19 @@ fn group_of(alloc: Global, taken: Vec<Constraint>) -> Result<Group, NoMemory>
     ensures aux { IfOk result (λ g. length g.aux ≡ 3) }
 {
     let aux = Vec::from_slice(alloc, &[4, 5, 6])?;
+    let border = [Lit::new(1, false), Lit::new(2, true), Lit::new(3, false)];
+    let border = Vec::from_slice(alloc, &border)?;
+    Ok(Group::new(aux, taken, border))
+}
+
+// The same with 4 to 13 as its auxiliary variables.
+fn group_of_many(alloc: Global, taken: Vec<Constraint>) -> Result<Group, NoMemory>
+    requires clauses { AllByRecursion (λ c. is_clause c ≡ true) taken.items }
+    requires covered { AllByRecursion (λ c. AllByRecursion (IsCovered (record { aux = 4 ∷ 5 ∷ 6 ∷ []; taken = []; border = record { variable = 1; positive = false } ∷ record { variable = 2; positive = true } ∷ record { variable = 3; positive = false } ∷ [] })) c.lits) taken.items }
+    ensures border { IfOk result (λ g. length g.border ≡ 3) }
+    ensures aux { IfOk result (λ g. length g.aux ≡ 10) }
+{
+    let aux = Vec::from_slice(alloc, &[4, 5, 6, 7, 8, 9, 10, 11, 12, 13])?;
     let border = [Lit::new(1, false), Lit::new(2, true), Lit::new(3, false)];
     let border = Vec::from_slice(alloc, &border)?;
     Ok(Group::new(aux, taken, border))
@@ -222,19 +241,30 @@ fn is_right(group: &Group, answer: &Verdict) -> bool {
     }
 }
 
-#[test]
-fn verdicts_are_those_of_all_values(rt: HostRuntime) -> Result<(), Fail> {
+// Which of the answers come for 200 groups that are drawn: a klause, a count out of range, and no count. None
+// where one of them is wrong.
+fn answers(alloc: Global, many: bool) -> Result<Option<[bool; 3]>, NoMemory> {
     let mut seen = [false; 3];
     for number in 0..200u64 {
-        let group = drawn_group(rt.alloc(), number)?;
-        let answer = verdict(rt.alloc(), &group)?;
-        assert!(rt; is_right(&group, &answer), "group {number}");
+        let group = drawn_group(alloc, number, many)?;
+        let answer = verdict(alloc, &group)?;
+        if !is_right(&group, &answer) {
+            return Ok(None);
+        }
         match answer {
             Verdict::Klause { .. } => seen[0] = true,
             Verdict::OutOfRange { .. } => seen[1] = true,
             _ => seen[2] = true,
         }
     }
-    assert!(rt; seen == [true; 3]);
+    Ok(Some(seen))
+}
+
+#[test]
+fn verdicts_are_those_of_all_values(rt: HostRuntime) -> Result<(), Fail> {
+    for many in [false, true] {
+        let seen = answers(rt.alloc(), many)?;
+        assert!(rt; seen == Some([true; 3]), "{many}");
+    }
     Ok(())
 }

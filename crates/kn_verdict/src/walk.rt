@@ -1,3 +1,4 @@
+//! The one bound that a group can have: the fewest border literals, from the first on, that let its clauses hold.
 ghost use Rattle.std.specs.Prelude.{ℕ, ◌≡◌, ◌≤◌, ◌-◌, ◌++◌, ◌↔◌, Bool, true, false, length, map, replicate};
 ghost use Rattle.kn_diagram.specs.Diagrams.{function_of, is_true_by};
 ghost use Rattle.kn_quant.specs.Runs.{CanHold};

@@ -1,3 +1,4 @@
+//! Where a group is no count: values at which its clauses and its one possible bound differ, so that it can be seen.
 ghost use Rattle.std.specs.Prelude.{ℕ, ◌≡◌, ◌≤◌, ◌<◌, ◌+◌, ◌^◌, Bool, true, false, length, map, nat_lt, not, if◌then◌else◌, IfOk};
 ghost use Rattle.kn_logic.specs.Groups.{IsGroup};
 ghost use Rattle.kn_diagram.specs.Diagrams.{function_of};

@@ -6,7 +6,7 @@
 #![tactic(auto)]
 
 mod laws;
-mod looking;
+mod looking; // `look`, `forced` and `is_conflicting`
 mod trail;
 mod watched;
 

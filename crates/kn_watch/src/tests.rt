@@ -95,6 +95,19 @@ fn a_trail_grows_and_goes_back(rt: HostRuntime) -> Result<(), Fail> {
 }
 
 #[test]
+fn a_literal_is_true_false_or_neither(rt: HostRuntime) -> Result<(), Fail> {
+    let mut trail = Trail::new(rt.alloc(), 2)?;
+    let unset = Lit::new(1, true);
+    let sure = Lit::new(2, false);
+    trail.push(sure, None);
+    assert_eq!(rt; (trail.is_open(unset), trail.is_unset(unset)), (true, true));
+    assert_eq!(rt; (trail.is_open(sure), trail.is_unset(sure)), (true, false));
+    let shut = sure.negated();
+    assert_eq!(rt; (trail.is_open(shut), trail.is_unset(shut)), (false, false));
+    Ok(())
+}
+
+#[test]
 fn a_fact_is_forced(rt: HostRuntime) -> Result<(), Fail> {
     let lits = vec![in rt.alloc(); Lit::new(1, true)]?;
     let mut fact = Fact { lits };
@@ -111,8 +124,12 @@ fn a_fact_is_forced(rt: HostRuntime) -> Result<(), Fail> {
         (Look::Quiet, false)
     );
     trail.back_to(0);
+    assert!(rt; !is_conflicting(&fact, &trail));
     trail.push(Lit::new(1, false), None);
-    assert_eq!(rt; look(&fact, &trail), Look::Conflict);
+    assert_eq!(rt;
+        (look(&fact, &trail), is_conflicting(&fact, &trail)),
+        (Look::Conflict, true)
+    );
     assert_eq!(rt; fact.turned_false(0, &trail), Visit::Conflict);
     settled_is_quiet::<Fact>();
     Ok(())
