@@ -31,13 +31,19 @@ pub enum FeedError {
 impl fmt::Display for FeedError {
     fn fmt<W: fmt::Write>(&self, f: &mut fmt::Formatter<W>) -> fmt::Result {
         match self {
-            FeedError::Wrong(1) => write!(f, "a header behind the first line"),
-            FeedError::Wrong(3) => write!(f, "an unknown variable"),
-            FeedError::Wrong(4) => write!(f, "an id that is not live"),
-            FeedError::Wrong(5) => write!(f, "hints without a conflict"),
-            FeedError::Wrong(6) => write!(f, "a unit clause that is not the root's"),
-            FeedError::Wrong(7) => write!(f, "a root that does not stand for the grid"),
-            FeedError::Wrong(8) => {
+            FeedError::Wrong(cause::WRONG_HEADER) => write!(f, "a header behind the first line"),
+            FeedError::Wrong(cause::UNKNOWN_VARIABLE) => write!(f, "an unknown variable"),
+            FeedError::Wrong(cause::NOT_LIVE) => write!(f, "an id that is not live"),
+            FeedError::Wrong(cause::NO_CONFLICT) => write!(f, "hints without a conflict"),
+            FeedError::Wrong(cause::WRONG_UNIT) => write!(
+                f,
+                "a unit clause that is not the root's"
+            ),
+            FeedError::Wrong(cause::WRONG_ROOT) => write!(
+                f,
+                "a root that does not stand for the grid"
+            ),
+            FeedError::Wrong(cause::NOT_PLAIN) => {
                 write!(
                     f,
                     "a klause that names a variable twice, or an unfolded one with a guard"
