@@ -1,9 +1,9 @@
 -- What holds of an extraction at each moment: of the groups taken so far, and of what is left then.
-use Rattle.std.proofs.Common.{◌≡◌, ℕ, suc, ◌+◌, ◌≤◌, ◌<◌, ◌==◌, Bool, true, false, not, cond, ◌&&◌, ◌||◌, List, [], ◌∷◌, ◌++◌, length, map, filter, Option, Some, None, refl, sym, ap, ap₂, subst, ◌∙◌, inl, inr, arith, true≢false, append_assoc, length-append}
+use Rattle.std.proofs.Common.{◌≡◌, ℕ, suc, ◌+◌, ◌≤◌, ◌<◌, ◌==◌, Bool, true, false, not, cond, ◌&&◌, ◌||◌, List, [], ◌∷◌, ◌++◌, length, map, filter, Some, refl, sym, ap, ap₂, subst, ◌∙◌, inl, inr, arith, true≢false, append_assoc, length-append}
 use Rattle.std.specs.Prelude.{◌⊎◌}
-use Rattle.std.specs.List.{list_any, flat_map, AllByRecursion}
+use Rattle.std.specs.List.{list_any, AllByRecursion}
 use Rattle.std.specs.List.Sorted.{IsStrictlyIncreasing}
-use Rattle.std.proofs.lemmas.Bool.{or_left, or_right, or_parts, or_cases, and_parts, eqb-true, eq-eqb, ne_eqb, not-true}
+use Rattle.std.proofs.lemmas.Bool.{or_left, or_right, or_cases, eqb-true, eq-eqb, ne_eqb, not-true}
 use Rattle.std.proofs.lemmas.List.{append-nil, length-map}
 use Rattle.std.proofs.lemmas.List.Filters.{length-filter_both}
 use Rattle.std.proofs.lemmas.List.Elements.{All-from_recursion}
@@ -12,14 +12,14 @@ use Rattle.std.proofs.lemmas.Map.Views.{length-le_from_below}
 use Rattle.std.proofs.lemmas.List.Folds.{list_any-append}
 use Rattle.kn_logic.proofs.Public.{All-append}
 use Rattle.kn_logic.specs.Literals.{Literal, names, IsKnown}
-use Rattle.kn_logic.specs.Constraints.{Bounded, is_clause, named, klause, Fits}
+use Rattle.kn_logic.specs.Constraints.{Bounded, is_clause, named, Fits}
 use Rattle.kn_logic.specs.Formulas.{Problem, IsFormula}
-use Rattle.kn_logic.specs.Groups.{Gathered, is_among}
+use Rattle.kn_logic.specs.Groups.{is_among}
 use Rattle.kn_store.specs.Stores.{Numbered, Stored, IsStored, constraints_of, ids_of, constraint_at, chosen, problem_of}
 use Rattle.kn_store.proofs.Public.{all-one, all-two, from-map, to-map, all-filter, all-pass, Rises, rises, increasing, IsOwn, own}
 use Rattle.kn_guess.specs.Guesses.{in_klause}
-use Rattle.kn_extract.specs.Extractions.{Found, klause_of, numbered, stored_of, left, replaced, Tries}
-use Rattle.kn_extract.specs.Structure.{IsOver, ids_taken, IsOwned, Pairwise, TakesOthers, IsClear, IsForeign, StandApart}
+use Rattle.kn_extract.specs.Extractions.{Found, klause_of, numbered, stored_of, left, Tries}
+use Rattle.kn_extract.specs.Structure.{IsOver, ids_taken, IsOwned, Pairwise, TakesOthers, IsClear, StandApart}
 use Rattle.kn_extract.proofs.Lists.{filter-yes, filter-no, any-with, each-any, own-among}
 use Rattle.kn_extract.proofs.Steps.{IsStep, AreSteps, named_in, step-formula, among-parts}
 use Rattle.kn_extract.proofs.Steps.{known-named as known-of}

@@ -1,5 +1,5 @@
 -- The group of a seed is a step.
-use Rattle.std.proofs.Common.{◌≡◌, ℕ, ◌+◌, ◌≤◌, ◌<◌, ◌==◌, Bool, true, false, not, cond, ◌&&◌, ◌||◌, List, [], ◌∷◌, length, map, filter, refl, sym, ap, ap₂, subst, ◌∙◌, inl, inr, arith, true≢false}
+use Rattle.std.proofs.Common.{◌≡◌, ℕ, ◌≤◌, Bool, true, false, not, cond, ◌&&◌, List, [], ◌∷◌, length, map, filter, refl, sym, ap, subst, ◌∙◌, inl, inr, arith, true≢false}
 use Rattle.std.specs.Prelude.{◌⊎◌}
 use Rattle.std.specs.List.{list_any, AllByRecursion}
 use Rattle.std.proofs.lemmas.Bool.{and_parts, or_cases, or_left, or_right, and_from, not-true}
@@ -10,10 +10,10 @@ use Rattle.kn_logic.specs.Groups.{Gathered, is_among}
 use Rattle.kn_logic.proofs.Public.{All-has, same_literal}
 use Rattle.kn_store.specs.Stores.{Numbered, Stored, constraints_of, chosen, problem_of}
 use Rattle.kn_store.proofs.Public.{all-one, all-two, rises}
-use Rattle.kn_guess.specs.Guesses.{in_klause, in_binary, share, stands, is_seed, IsClosedFrom, IsLeastFrom, touches, IsBorder, IsSeedGuess}
+use Rattle.kn_guess.specs.Guesses.{in_klause, in_binary, stands, is_seed, IsClosedFrom, IsLeastFrom, touches, IsBorder, IsSeedGuess}
 use Rattle.kn_extract.specs.Extractions.{Found, IsSeedTaken}
 use Rattle.kn_extract.proofs.Steps.{IsStep, named_in, keep, go, known-named}
-use Rattle.kn_extract.proofs.Lists.{any-none, each-none, any-with, passes, own-has, among-filter, rises-different}
+use Rattle.kn_extract.proofs.Lists.{any-none, each-none, passes, own-has, among-filter, rises-different}
 
 -- no member of the least set stands in a klause
 free-closed : (cs : List Bounded) (seed : ℕ) (set : List ℕ) → in_klause cs seed ≡ false → IsClosedFrom cs seed set → IsClosedFrom cs seed (filter (λ v. not (in_klause cs v)) set)

@@ -1,7 +1,7 @@
 -- How the groups of a whole extraction lie, and what its models make true.
-use Rattle.std.proofs.Common.{◌≡◌, ℕ, ◌+◌, ◌≤◌, ◌==◌, Bool, true, false, not, ◌||◌, List, [], ◌∷◌, ◌++◌, length, map, filter, Option, Some, None, refl, sym, ap, subst, ◌∙◌, inl, inr, arith, true≢false}
+use Rattle.std.proofs.Common.{◌≡◌, ℕ, ◌≤◌, ◌==◌, Bool, true, false, not, List, [], ◌∷◌, ◌++◌, length, map, Option, Some, None, refl, sym, ap, subst, ◌∙◌, inl, inr, arith, true≢false}
 use Rattle.std.specs.Prelude.{◌⊎◌}
-use Rattle.std.specs.List.{list_any, flat_map, range_with_len, AllByRecursion}
+use Rattle.std.specs.List.{range_with_len, AllByRecursion}
 use Rattle.std.proofs.lemmas.Bool.{or_cases, eqb-true}
 use Rattle.std.proofs.lemmas.List.{length-map}
 use Rattle.std.proofs.lemmas.List.Folds.{list_any-append}
@@ -9,7 +9,7 @@ use Rattle.kn_logic.proofs.Public.{All-append}
 use Rattle.kn_logic.specs.Constraints.{Bounded, Holds}
 use Rattle.kn_logic.specs.Formulas.{Problem, IsFormula, Satisfies}
 use Rattle.kn_logic.specs.Groups.{is_among}
-use Rattle.kn_store.specs.Stores.{Numbered, Stored, constraints_of, constraint_at, problem_of}
+use Rattle.kn_store.specs.Stores.{Numbered, constraints_of, constraint_at}
 use Rattle.kn_store.proofs.Public.{all-one, all-two, from-map, to-map, all-filter, IsOwn, own}
 use Rattle.kn_format.specs.Grammar.{highest_bound}
 use Rattle.kn_format.specs.Texts.{IsWithinLimits}

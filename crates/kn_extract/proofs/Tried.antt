@@ -1,19 +1,18 @@
 -- What a number takes that is tried, and what a run of them does.
-use Rattle.std.proofs.Common.{◌≡◌, ℕ, suc, ◌+◌, ◌-◌, ◌≤◌, ◌<◌, ◌==◌, Bool, true, false, not, List, [], ◌∷◌, ◌++◌, length, map, filter, Option, Some, None, refl, sym, ap, ap₂, subst, ◌∙◌, inl, inr, arith, append_assoc}
-use Rattle.std.specs.Prelude.{◌⊎◌, zero}
+use Rattle.std.proofs.Common.{◌≡◌, ℕ, suc, ◌+◌, ◌≤◌, Bool, List, [], ◌∷◌, ◌++◌, length, map, Option, Some, None, refl, sym, ap, subst, ◌∙◌, inl, inr, arith, append_assoc}
+use Rattle.std.specs.Prelude.{zero}
 use Rattle.std.specs.List.{AllByRecursion, range_with_len}
 use Rattle.std.proofs.lemmas.List.{append-nil}
 use Rattle.kn_logic.proofs.Public.{All-append}
-use Rattle.kn_logic.specs.Literals.{Literal, AreKnown, AreDifferent}
 use Rattle.kn_logic.specs.Constraints.{Bounded, klause, Fits}
-use Rattle.kn_logic.specs.Groups.{Gathered, IsPairGroup, is_among, is_covered}
+use Rattle.kn_logic.specs.Groups.{Gathered, IsPairGroup, is_covered}
 use Rattle.kn_quant.specs.Eliminations.{Eliminated}
-use Rattle.kn_store.specs.Stores.{Numbered, Stored, IsStored, constraints_of, ids_of, chosen}
+use Rattle.kn_store.specs.Stores.{Stored, IsStored, ids_of, chosen}
 use Rattle.kn_store.proofs.Public.{all-one, to-map, all-filter, rises}
 use Rattle.kn_guess.specs.Guesses.{touches, IsSeedGuess, IsPairGuess}
 use Rattle.kn_extract.specs.Extractions.{Found, IsSeedTaken, IsPairTaken, Tries, replaced}
 use Rattle.kn_extract.specs.Kept.{Took, found_of, IsTaken}
-use Rattle.kn_extract.specs.Taking.{IsWorthTaking, Counts, without, previous, HasTried, HaveTried}
+use Rattle.kn_extract.specs.Taking.{IsWorthTaking, Counts, without, HasTried, HaveTried}
 use Rattle.kn_extract.proofs.Steps.{klause-fits}
 use Rattle.kn_extract.proofs.SeedSteps.{seed-known}
 use Rattle.kn_extract.proofs.PairSteps.{pair-known, pair-different, pair-cardinal}

@@ -1,18 +1,17 @@
 -- A formula has one extraction.
-use Rattle.std.proofs.Common.{◌≡◌, ℕ, suc, ◌+◌, ◌≤◌, ◌<◌, ◌==◌, Bool, true, false, not, cond, ◌&&◌, ◌||◌, List, [], ◌∷◌, ◌++◌, length, map, refl, sym, ap, ap₂, subst, ◌∙◌, inl, inr, arith, true≢false}
-use Rattle.std.specs.Prelude.{◌⊎◌, zero}
-use Rattle.std.specs.List.{list_any, AllByRecursion, range_with_len}
-use Rattle.std.proofs.lemmas.Bool.{or_left, or_parts, or_cases, eqb-true, eq-eqb, ne_eqb, cond-true, cond-false}
+use Rattle.std.proofs.Common.{◌≡◌, ℕ, suc, ◌+◌, ◌≤◌, ◌==◌, Bool, true, false, not, cond, List, [], ◌∷◌, ◌++◌, length, map, refl, sym, ap, ap₂, subst, ◌∙◌, inl, inr, arith, true≢false}
+use Rattle.std.specs.Prelude.{zero}
+use Rattle.std.specs.List.{range_with_len}
+use Rattle.std.proofs.lemmas.Bool.{or_parts, eq-eqb, ne_eqb, cond-true, cond-false}
 use Rattle.kn_logic.proofs.Public.{same_sign}
 use Rattle.kn_logic.specs.Literals.{Literal, has, names, places, AreDifferent}
-use Rattle.kn_logic.specs.Constraints.{Bounded, klause}
 use Rattle.kn_logic.specs.Formulas.{Problem}
 use Rattle.kn_logic.specs.Groups.{Gathered, is_among, is_covered}
 use Rattle.kn_diagram.specs.Diagrams.{is_true_by}
 use Rattle.kn_verdict.specs.Cardinals.{IsCardinal}
 use Rattle.kn_store.specs.Stores.{Stored, constraints_of, ids_of, chosen, problem_of}
 use Rattle.kn_store.proofs.Public.{rises}
-use Rattle.kn_guess.specs.Guesses.{joined, candidates, pair_group, touches, stands, is_border, IsSeedGuess, IsPairGuess}
+use Rattle.kn_guess.specs.Guesses.{pair_group, touches, is_border, IsSeedGuess, IsPairGuess}
 use Rattle.kn_extract.specs.Extractions.{Found, klause_of, IsSeedTaken, IsPairTaken, Tries, IsExtraction, stored_of, replaced}
 use Rattle.kn_extract.proofs.Lists.{bool-same, numbers-one, literals-one, rises-different}
 use Rattle.kn_extract.proofs.PairSteps.{Some-inj}

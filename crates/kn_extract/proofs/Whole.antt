@@ -1,11 +1,10 @@
 -- The whole extraction keeps models both ways.
-use Rattle.std.proofs.Common.{◌≡◌, ℕ, ◌+◌, Bool, List, [], ◌∷◌, ◌++◌, length, refl, sym, ap, subst, ◌∙◌, append_assoc}
+use Rattle.std.proofs.Common.{◌≡◌, Bool, List, [], ◌∷◌, ◌++◌, length, refl, sym, ap, subst, ◌∙◌, append_assoc}
 use Rattle.std.specs.List.{range_with_len}
-use Rattle.kn_logic.specs.Constraints.{Bounded}
 use Rattle.kn_logic.specs.Formulas.{Problem, IsFormula, Satisfies}
 use Rattle.kn_logic.specs.Groups.{is_among}
-use Rattle.kn_store.specs.Stores.{Stored, constraints_of, problem_of}
-use Rattle.kn_extract.specs.Extractions.{Found, IsSeedTaken, IsPairTaken, IsExtraction, numbered, stored_of, listed, AgreeOff}
+use Rattle.kn_store.specs.Stores.{problem_of}
+use Rattle.kn_extract.specs.Extractions.{Found, IsSeedTaken, IsPairTaken, IsExtraction, stored_of, listed, AgreeOff}
 use Rattle.kn_extract.proofs.Moments.{start-same}
 use Rattle.kn_extract.proofs.Steps.{tries-formula, tries-on, tries-back, among-parts}
 use Rattle.kn_extract.proofs.SeedSteps.{seed-step}

@@ -1,11 +1,11 @@
 -- What the type of a taken group keeps.
-use Rattle.std.proofs.Common.{◌≡◌, ℕ, ◌+◌, ◌-◌, ◌≤◌, ◌<◌, List, [], ◌∷◌, length, map, Option, refl, sym, ap, ap₂, subst, ◌∙◌, arith}
+use Rattle.std.proofs.Common.{◌≡◌, ℕ, ◌+◌, ◌-◌, ◌≤◌, ◌<◌, List, [], ◌∷◌, length, map, Option, refl, sym, ap₂, subst, ◌∙◌, arith}
 use Rattle.std.specs.List.{AllByRecursion}
 use Rattle.std.specs.List.Sorted.{IsStrictlyIncreasing}
 use Rattle.std.proofs.lemmas.List.{length-map}
 use Rattle.kn_logic.specs.Constraints.{Bounded, klause}
 use Rattle.kn_logic.specs.Groups.{Gathered, IsGroup}
-use Rattle.kn_store.proofs.Public.{all-one, all-two, to-map, Rises, rises, increasing}
+use Rattle.kn_store.proofs.Public.{all-two, to-map, Rises, rises, increasing}
 use Rattle.kn_quant.specs.Eliminations.{Eliminated}
 use Rattle.kn_extract.specs.Kept.{Took, IsTaken}
 use Rattle.kn_extract.specs.Taking.{previous, IsWorthTaking}

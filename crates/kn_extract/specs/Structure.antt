@@ -1,5 +1,5 @@
 -- How the groups of an extraction lie to one another, and to the formula that remains.
-use Rattle.std.specs.Prelude.{ℕ, ◌≡◌, ◌≤◌, not, Bool, true, false, List, [], ◌∷◌, ◌++◌, map, filter, Some}
+use Rattle.std.specs.Prelude.{ℕ, ◌≡◌, ◌≤◌, not, Bool, false, List, [], ◌∷◌, ◌++◌, map, filter, Some}
 use Rattle.std.specs.List.{AllByRecursion, flat_map}
 use Rattle.kn_logic.specs.Literals.{AreKnown}
 use Rattle.kn_logic.specs.Constraints.{Bounded, named, Holds}

@@ -1,6 +1,5 @@
 -- A budget that was spent is a small one.
-use Rattle.std.proofs.Common.{◌≡◌, ℕ, ◌<◌, ◌^◌, List, [], Option, sym, ◌∙◌, subst}
-use Rattle.kn_rules.specs.States.{ProofState}
+use Rattle.std.proofs.Common.{◌≡◌, ℕ, ◌<◌, ◌^◌, List, [], Option, subst}
 use Rattle.kn_rules.specs.Searching.{learned_live, SearchesBy}
 use Rattle.kn_rules.proofs.Public.{few-learned, few-forgetting}
 use Rattle.kn_log.specs.Logs.{Logged}

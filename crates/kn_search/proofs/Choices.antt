@@ -1,5 +1,5 @@
 -- A trail with one literal more, which had no value: fewer variables are left.
-use Rattle.std.proofs.Common.{◌≡◌, ℕ, ◌+◌, ◌-◌, ◌≤◌, ◌<◌, ◌++◌, ◌∷◌, false, List, [], length, Option, None, ap, ◌∙◌, subst, length-append, arith}
+use Rattle.std.proofs.Common.{◌≡◌, ◌+◌, ◌-◌, ◌<◌, ◌++◌, ◌∷◌, List, [], length, None, ap, ◌∙◌, subst, length-append, arith}
 use Rattle.kn_logic.specs.Literals.{Literal}
 use Rattle.kn_watch.specs.declared.trail.Made.{Made}
 use Rattle.kn_watch.specs.Trails.{Trailed}

@@ -1,10 +1,9 @@
 -- What a search has done when it ends.
-use Rattle.std.proofs.Common.{◌≡◌, ℕ, ◌+◌, ◌≤◌, ◌++◌, ◌∷◌, Bool, true, false, cond, List, [], Option, Some, Ok, refl, sym, ap, ◌∙◌, subst, arith}
+use Rattle.std.proofs.Common.{◌≡◌, ℕ, ◌+◌, ◌≤◌, ◌∷◌, Bool, true, false, cond, List, [], Option, refl, sym, ap, ◌∙◌, subst, arith}
 use Rattle.kn_lines.specs.declared.line.Line.{Line}
 use Rattle.kn_lines.specs.declared.line.Line.TheVariants.{Header, Define, Lemma, Learned, Klause, Unfold, Delete}
 use Rattle.kn_rules.specs.declared.given.Given.{Given}
 use Rattle.kn_rules.specs.States.{ProofState}
-use Rattle.kn_rules.specs.Steps.{step}
 use Rattle.kn_rules.specs.Stepping.{is_definition, is_deletion, learned_in}
 use Rattle.kn_rules.specs.Searching.{Allows, SearchesBy}
 use Rattle.kn_rules.proofs.Public.{step-keeps}

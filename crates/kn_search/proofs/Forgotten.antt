@@ -1,8 +1,8 @@
 -- Ids that are deleted in the log and removed from the engine.
-use Rattle.std.proofs.Common.{◌≡◌, ℕ, zero, suc, ◌+◌, ◌-◌, ◌≤◌, ◌<◌, ◌⊎◌, ◌++◌, Bool, true, false, not, cond, eqb, List, [], ◌∷◌, length, take, get_or, Option, None, Some, Result, Ok, Err, IsOk, slice_set, refl, sym, ap, ◌∙◌, subst, inl, inr, arith}
+use Rattle.std.proofs.Common.{◌≡◌, ℕ, zero, suc, ◌+◌, ◌-◌, ◌≤◌, ◌<◌, ◌++◌, Bool, true, false, not, cond, eqb, List, [], ◌∷◌, length, take, get_or, Option, None, Some, Result, Ok, Err, IsOk, slice_set, refl, sym, ap, ◌∙◌, subst, inl, inr, arith}
 use Rattle.std.specs.List.{AllByRecursion, slice_get}
 use Rattle.std.specs.Option.{is_none, option_and_then}
-use Rattle.std.proofs.lemmas.Bool.{cases_Bool, cond-false, eqb-true, eq-eqb, ne_eqb, cases_eq, or_parts}
+use Rattle.std.proofs.lemmas.Bool.{cond-false, eqb-true, eq-eqb, ne_eqb, cases_eq, or_parts}
 use Rattle.std.proofs.lemmas.Option.{same_Some}
 use Rattle.std.proofs.lemmas.List.{take_more}
 use Rattle.kn_logic.specs.Constraints.{Bounded}
@@ -10,7 +10,7 @@ use Rattle.kn_lines.specs.declared.line.Line.TheVariants.{Delete}
 use Rattle.kn_rules.specs.declared.given.Given.{Given}
 use Rattle.kn_rules.specs.States.{ProofState, given_at, live_at}
 use Rattle.kn_rules.specs.Steps.{without, deleted, with_given, step}
-use Rattle.kn_rules.specs.Searching.{is_searched, is_learned, live_before, learned_live, IsGivenBy}
+use Rattle.kn_rules.specs.Searching.{is_learned, live_before, learned_live, IsGivenBy}
 use Rattle.kn_rules.proofs.Public.{with_given-ok}
 use Rattle.kn_propagate.specs.Engines.{Live, live_in, removed}
 use Rattle.kn_search.specs.Mirrors.{Mirrors}

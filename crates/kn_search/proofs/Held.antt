@@ -1,22 +1,20 @@
 -- The ids of the clauses that a search has learned and not forgotten.
-use Rattle.std.proofs.Common.{◌≡◌, ℕ, zero, suc, ◌+◌, ◌-◌, ◌≤◌, ◌<◌, ◌⊎◌, ◌++◌, Bool, true, false, cond, eqb, List, [], ◌∷◌, length, Option, None, Some, Ok, refl, sym, ap, ◌∙◌, subst, inl, inr, arith}
+use Rattle.std.proofs.Common.{◌≡◌, ℕ, ◌+◌, ◌++◌, Bool, true, false, List, [], ◌∷◌, length, Option, None, Some, Ok, refl, sym, ap, ◌∙◌, subst, inl, inr, arith}
 use Rattle.std.specs.List.{AllByRecursion}
 use Rattle.std.proofs.lemmas.Bool.{ne_eqb, cases_eq}
-use Rattle.kn_logic.specs.Literals.{Literal}
 use Rattle.kn_logic.specs.Constraints.{Bounded, clause}
 use Rattle.kn_logic.proofs.Public.{All-push}
 use Rattle.kn_lines.specs.declared.line.Line.TheVariants.{Learned}
 use Rattle.kn_rules.specs.declared.given.Given.{Given}
 use Rattle.kn_rules.specs.declared.given.Origin.TheVariants as origin
-use Rattle.kn_rules.specs.States.{ProofState, given_at}
+use Rattle.kn_rules.specs.States.{ProofState}
 use Rattle.kn_rules.specs.Steps.{step}
 use Rattle.kn_rules.specs.Searching.{is_learned, live_before, learned_live}
 use Rattle.kn_rules.proofs.Public.{follow-gives, given_at-grows}
 use Rattle.kn_propagate.specs.Engines.{Live, live_in, IsAdded}
-use Rattle.kn_search.specs.Mirrors.{Mirrors}
-use Rattle.kn_search.specs.Searches.{contains, AreOnce, IsLiveLearned, AreHeld, AreKept}
+use Rattle.kn_search.specs.Searches.{contains, IsLiveLearned, AreHeld, AreKept}
 use Rattle.kn_search.proofs.Ids.{id-within, given-last}
-use Rattle.kn_search.proofs.Mirroring.{unused-id, added-found, added-other}
+use Rattle.kn_search.proofs.Mirroring.{added-other}
 use Rattle.kn_search.proofs.Once.{once-push}
 
 pub length-push : (ps : List ℕ) (p : ℕ) → length (ps ++ p ∷ []) ≡ length ps + 1

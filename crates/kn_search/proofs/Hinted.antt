@@ -1,5 +1,5 @@
 -- Hints of the engine are hints of the log: a clause that they refute is a line that steps.
-use Rattle.std.proofs.Common.{◌≡◌, ℕ, ◌≤◌, ◌++◌, Bool, true, cond, List, [], ◌∷◌, map, length, Option, None, Some, Result, Ok, Err, IsOk, refl, sym, ap, ◌∙◌, subst, arith}
+use Rattle.std.proofs.Common.{◌≡◌, ℕ, ◌≤◌, true, List, [], ◌∷◌, map, Option, None, Some, Ok, Err, IsOk, refl, sym, ap, subst, arith}
 use Rattle.std.specs.List.{AllByRecursion}
 use Rattle.std.specs.Option.{is_none, option_and_then, option_map}
 use Rattle.std.proofs.lemmas.Bool.{and_from, le-leb, cond-true}
@@ -13,7 +13,7 @@ use Rattle.kn_lines.specs.declared.line.Line.TheVariants.{Learned}
 use Rattle.kn_rules.specs.declared.given.Given.{Given}
 use Rattle.kn_rules.specs.declared.given.Origin.{Origin}
 use Rattle.kn_rules.specs.declared.given.Origin.TheVariants as origin
-use Rattle.kn_rules.specs.States.{ProofState, given_at, live_at}
+use Rattle.kn_rules.specs.States.{ProofState, live_at}
 use Rattle.kn_rules.specs.Steps.{are_known, hinted, is_conflict, with_clause, if_conflict, follow}
 use Rattle.kn_rules.specs.Searching.{is_searched, IsGivenBy, Allows}
 use Rattle.kn_propagate.specs.Engines.{Live, live_in, constraints}

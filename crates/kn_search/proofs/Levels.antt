@@ -1,5 +1,5 @@
 -- A clause that is not short below a level, once the trail has gone back to that level.
-use Rattle.std.proofs.Common.{◌≡◌, ℕ, ◌+◌, ◌≤◌, ◌<◌, List, sym, ap, ◌∙◌, subst, arith}
+use Rattle.std.proofs.Common.{◌≡◌, ℕ, ◌+◌, ◌≤◌, ◌<◌, List, ap, ◌∙◌, subst, arith}
 use Rattle.kn_logic.specs.Literals.{Literal}
 use Rattle.kn_logic.specs.Constraints.{Bounded, clause}
 use Rattle.kn_logic.specs.Propagation.{IsShort}

@@ -1,10 +1,10 @@
 -- Where each variable has a value on a closed trail, the values are a model of the constraints.
-use Rattle.std.proofs.Common.{◌≡◌, ℕ, ◌≤◌, ◌<◌, ◌⊎◌, ◌||◌, Bool, true, false, not, cond, eqb, leb, List, [], ◌∷◌, length, Option, None, Some, IfSome, refl, sym, ap, ◌∙◌, subst, inl, inr, arith}
+use Rattle.std.proofs.Common.{◌≡◌, ℕ, ◌≤◌, ◌<◌, ◌⊎◌, ◌||◌, Bool, true, false, not, cond, eqb, leb, List, [], ◌∷◌, Option, None, Some, IfSome, refl, sym, ap, ◌∙◌, subst, inl, inr}
 use Rattle.std.specs.List.{AllByRecursion}
-use Rattle.std.proofs.lemmas.Bool.{cases_Bool, cond-true, cond-false, eqb-true, eq-eqb, leb-true, leb-false, not_from_true}
+use Rattle.std.proofs.lemmas.Bool.{cases_Bool, cond-true, cond-false, eqb-true, eq-eqb, leb-true, leb-false}
 use Rattle.std.proofs.lemmas.Option.{same_Some}
-use Rattle.kn_logic.specs.Literals.{Literal, negated, has, names, IsKnown, AreKnown}
-use Rattle.kn_logic.specs.Assignments.{value_of, is_true, true_places}
+use Rattle.kn_logic.specs.Literals.{Literal, negated, has, IsKnown, AreKnown}
+use Rattle.kn_logic.specs.Assignments.{is_true, true_places}
 use Rattle.kn_logic.specs.Constraints.{Bounded, IsOff, Holds, IsWithin}
 use Rattle.kn_logic.specs.Propagation.{is_open, open_places, IsShortUnder, IsShort, IsClosed}
 use Rattle.kn_watch.specs.Trails.{literals}

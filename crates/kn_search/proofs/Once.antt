@@ -1,7 +1,7 @@
 -- Lists of numbers: which stand there, and whether each does once.
-use Rattle.std.proofs.Common.{◌≡◌, ℕ, zero, suc, ◌+◌, ◌<◌, ◌⊎◌, ◌++◌, ◌||◌, Bool, true, false, eqb, List, [], ◌∷◌, length, take, get_or, refl, sym, subst, inl, inr, arith}
+use Rattle.std.proofs.Common.{◌≡◌, ℕ, zero, suc, ◌<◌, ◌⊎◌, ◌++◌, true, false, eqb, List, [], ◌∷◌, length, take, get_or, refl, sym, subst, inl, inr, arith}
 use Rattle.std.specs.List.{AllByRecursion}
-use Rattle.std.proofs.lemmas.Bool.{or_cases, or_left, or_right, or_parts, cases_Bool, eqb-true, eq-eqb, ne_eqb}
+use Rattle.std.proofs.lemmas.Bool.{or_cases, or_left, or_right, or_parts, cases_Bool, eqb-true, eq-eqb}
 use Rattle.kn_search.specs.Searches.{contains, AreOnce}
 
 pub contains-push : (ps : List ℕ) (p q : ℕ) → contains ps q ≡ true → contains (ps ++ p ∷ []) q ≡ true

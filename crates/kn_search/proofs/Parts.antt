@@ -1,23 +1,16 @@
 -- What a search has logged, part by part.
-use Rattle.std.proofs.Common.{◌≡◌, ℕ, ◌+◌, ◌≤◌, ◌++◌, ◌∷◌, Bool, true, false, cond, List, [], Option, Some, Result, Ok, Err, refl, sym, ap, ◌∙◌, subst, arith}
-use Rattle.std.specs.List.{AllByRecursion}
+use Rattle.std.proofs.Common.{◌≡◌, ℕ, ◌+◌, ◌≤◌, ◌++◌, ◌∷◌, false, cond, List, [], Option, Result, Ok, Err, refl, sym, ap, ◌∙◌, subst, arith}
 use Rattle.std.specs.Result.{IfErr, IsErrAnd}
-use Rattle.std.proofs.lemmas.Bool.{or_right}
-use Rattle.kn_logic.specs.Literals.{AreKnown}
-use Rattle.kn_logic.specs.Constraints.{Bounded, clause}
-use Rattle.kn_logic.specs.Newness.{IsNew}
 use Rattle.kn_logic.proofs.Public.{All-append}
 use Rattle.kn_bytes.specs.Outside.{Got}
 use Rattle.kn_lines.specs.declared.line.Line.{Line}
-use Rattle.kn_lines.specs.declared.line.Line.TheVariants.{Learned, Lemma, Delete}
-use Rattle.kn_rules.specs.declared.given.Origin.TheVariants as origin
 use Rattle.kn_rules.specs.States.{ProofState}
 use Rattle.kn_rules.specs.Steps.{step}
 use Rattle.kn_rules.specs.Stepping.{is_lemma, is_deletion, is_learned_clause, learned_in, deletions_in}
-use Rattle.kn_rules.specs.Searching.{is_searched, searched, IsGivenBy, Allows, SearchesBy, HasNoLemma}
-use Rattle.kn_rules.proofs.Public.{searches-append, learned_in-append, follow-gives}
+use Rattle.kn_rules.specs.Searching.{Allows, SearchesBy}
+use Rattle.kn_rules.proofs.Public.{searches-append, learned_in-append}
 use Rattle.kn_log.specs.Logs.{Logged, Logs, LogsNot, IsSpelled, IsSpelledUnless, IsReadable, line_bytes}
-use Rattle.kn_log.specs.Written.{Adds, AddsSuch, LogsSuch, LogsSuchNot}
+use Rattle.kn_log.specs.Written.{Adds, AddsSuch, LogsSuch}
 use Rattle.kn_log.specs.declared.error.LogError.{LogError}
 use Rattle.kn_log.specs.declared.error.LogError.TheVariants.{Fault, Memory}
 use Rattle.kn_log.proofs.Public.{Adds-none, Adds-one, Adds-join, Breaks-one, such-not-behind}

@@ -1,5 +1,5 @@
 -- Ids in two parts: those to forget, and the rest.
-use Rattle.std.proofs.Common.{◌≡◌, ℕ, ◌+◌, ◌≤◌, ◌⊎◌, ◌++◌, Bool, true, false, List, [], ◌∷◌, length, Option, None, Ok, refl, sym, subst, inl, inr, arith}
+use Rattle.std.proofs.Common.{◌≡◌, ℕ, ◌+◌, ◌≤◌, ◌++◌, true, false, List, [], ◌∷◌, length, None, Ok, refl, sym, subst, inl, inr, arith}
 use Rattle.std.specs.List.{AllByRecursion}
 use Rattle.std.proofs.lemmas.Bool.{cases_Bool}
 use Rattle.kn_logic.proofs.Public.{All-push}
@@ -9,7 +9,7 @@ use Rattle.kn_rules.specs.Steps.{step}
 use Rattle.kn_rules.specs.Searching.{is_learned, IsGivenBy, Allows}
 use Rattle.kn_watch.specs.declared.trail.Made.{Made}
 use Rattle.kn_propagate.specs.Engines.{Live, live_in, IsNoReason}
-use Rattle.kn_search.specs.Searches.{contains, AreOnce, removed_all, IsLiveLearned, AreHeld, AreKept, IsSplit}
+use Rattle.kn_search.specs.Searches.{contains, removed_all, IsLiveLearned, AreHeld, AreKept, IsSplit}
 use Rattle.kn_search.proofs.Once.{contains-push, contains-last, contains-either, all-in, all-of, once-push}
 use Rattle.kn_search.proofs.Held.{length-push}
 use Rattle.kn_search.proofs.Forgotten.{are-learned, left-learned, still-held, kept-forgotten}

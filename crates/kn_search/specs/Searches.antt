@@ -1,5 +1,5 @@
 -- What a search does between two of its conflicts, and what it keeps of the clauses that it has learned.
-use Rattle.std.specs.Prelude.{ℕ, ◌≡◌, ◌≤◌, ◌+◌, ◌==◌, ◌||◌, Bool, true, false, List, [], ◌∷◌, length, Option, Some, None, Result, Ok, Err}
+use Rattle.std.specs.Prelude.{ℕ, ◌≡◌, ◌≤◌, ◌+◌, ◌==◌, ◌||◌, Bool, true, false, List, [], ◌∷◌, length, Option, Some, None}
 use Rattle.std.specs.List.{AllByRecursion}
 use Rattle.kn_logic.specs.Constraints.{Bounded}
 use Rattle.kn_lines.specs.declared.line.Line.{Line}

@@ -1,5 +1,5 @@
 -- What the rows of each command say at the answers of the headline.
-use Rattle.std.proofs.Common.{◌≡◌, ℕ, List, Option, Some, None, refl, subst}
+use Rattle.std.proofs.Common.{ℕ, List, Option, Some, None, refl, subst}
 use Rattle.kn_bytes.specs.Outside.{Got}
 use Rattle.kn_logic.specs.Formulas.{Problem}
 use Rattle.kn_tool.specs.declared.answer.Which.{Which}

@@ -1,14 +1,13 @@
 -- A formula that a text spells is within the limits, and what is made of its extraction has a row.
-use Rattle.std.proofs.Common.{◌≡◌, ℕ, ◌+◌, ◌≤◌, Bool, List, [], ◌∷◌, map, Some, refl, sym, ap, subst, ◌∙◌, inl, inr, arith}
-use Rattle.std.specs.Prelude.{◌⊎◌}
+use Rattle.std.proofs.Common.{◌≡◌, ℕ, ◌≤◌, Bool, List, [], ◌∷◌, map, Some, ap, inl, inr, arith}
 use Rattle.std.specs.List.{AllByRecursion}
 use Rattle.kn_logic.specs.Literals.{Literal}
-use Rattle.kn_logic.specs.Constraints.{Bounded, clause, klause}
+use Rattle.kn_logic.specs.Constraints.{Bounded}
 use Rattle.kn_logic.specs.Formulas.{Problem, IsFormula, Satisfies}
 use Rattle.kn_text.specs.Lists.{LiteralsThen}
 use Rattle.kn_format.specs.declared.format.Format.{Format}
 use Rattle.kn_format.specs.declared.format.Format.TheVariants.{Cnf, Knf}
-use Rattle.kn_format.specs.Grammar.{highest_bound, ClauseThen, BoundThen, KlauseThen, GuardThen, MarkedThen, ConstraintThen, SpellConstraints, Spells, words_in}
+use Rattle.kn_format.specs.Grammar.{highest_bound, ClauseThen, BoundThen, GuardThen, MarkedThen, ConstraintThen, SpellConstraints, Spells, words_in}
 use Rattle.kn_format.specs.Texts.{IsWithinLimits}
 use Rattle.kn_extract.specs.Extractions.{Found, IsExtraction, AgreeOff, listed}
 use Rattle.kn_extract.specs.Kept.{Extracted, IsExtracted, found_of}

@@ -1,5 +1,5 @@
 -- What was read, checked and converted has a row.
-use Rattle.std.proofs.Common.{◌≡◌, ◌≤◌, ◌<◌, ◌-◌, ◌^◌, ◌++◌, min, Bool, List, ℕ, take, Option, Some, None, Err, ap, sym, ◌∙◌, refl, subst}
+use Rattle.std.proofs.Common.{◌≡◌, ◌≤◌, ◌<◌, ◌-◌, ◌^◌, ◌++◌, min, Bool, List, ℕ, take, Some, Err, ap, sym, ◌∙◌, refl, subst}
 use Rattle.kn_bytes.specs.Outside.{Rose}
 use Rattle.kn_bytes.specs.ReadAll.{Took}
 use Rattle.kn_bytes.specs.declared.read.ReadAll.{ReadAll}

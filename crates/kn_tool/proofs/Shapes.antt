@@ -1,9 +1,9 @@
 -- Words ask for one thing at most: what they ask for is a function of them.
-use Rattle.std.proofs.Common.{◌≡◌, ℕ, List, [], ◌∷◌, Option, Some, None, refl, sym, ap, ◌∙◌, subst, inl, inr}
+use Rattle.std.proofs.Common.{◌≡◌, ℕ, List, [], ◌∷◌, Option, Some, None, refl, sym, ap, ◌∙◌, inl, inr}
 use Rattle.std.specs.Prelude.{if◌then◌else◌, option_map, codes}
 use Rattle.std.specs.Str.{bytes_eq}
 use Rattle.kn_tool.specs.declared.command.Command.{Command}
-use Rattle.kn_tool.specs.Words.{Asked, check, solve, extract, convert, trim, work, AsksCheck, AsksSolve, AsksExtract, AsksConvert, AsksTrim, AsksWork, HasShape, HasNoShape, AsksFor, Named, names_of, asked_by, SpellsOptions, SpellsOption, SpellsBoth, SpellsConflicts, SpellsForget, count_of, default_conflicts, default_forget}
+use Rattle.kn_tool.specs.Words.{Asked, check, solve, extract, convert, trim, work, AsksCheck, AsksSolve, AsksExtract, AsksConvert, AsksTrim, AsksWork, HasShape, HasNoShape, AsksFor, Named, names_of, asked_by, SpellsOptions, SpellsOption, SpellsBoth, count_of, default_conflicts, default_forget}
 use Rattle.kn_tool.specs.WorkReplies.{AreInRange}
 
 -- a budget, and how many clauses are kept

@@ -1,7 +1,7 @@
 -- What solving says of a formula and its proof, in the words of bytes: they are those of a solver's proof, and say what
 -- the outcome says. Any formula will do whose header can be written.
-use Rattle.std.proofs.Common.{◌≡◌, ◌≤◌, ◌<◌, ◌+◌, ◌^◌, ◌++◌, ◌∷◌, List, ℕ, [], length, Option, refl, sym, ◌∙◌, subst, append-nil, arith}
-use Rattle.kn_bytes.specs.Outside.{Got, GotPrefix}
+use Rattle.std.proofs.Common.{◌≡◌, ◌≤◌, ◌<◌, ◌^◌, ◌++◌, ◌∷◌, List, ℕ, [], length, refl, sym, ◌∙◌, subst, arith}
+use Rattle.kn_bytes.specs.Outside.{GotPrefix}
 use Rattle.kn_bytes.proofs.Public.{Got-nil}
 use Rattle.kn_logic.specs.Formulas.{Problem}
 use Rattle.kn_lines.specs.declared.line.Line.{Line}

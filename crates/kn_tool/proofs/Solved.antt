@@ -1,5 +1,5 @@
 -- What was found of a formula has a row.
-use Rattle.std.proofs.Common.{◌≡◌, ◌≤◌, ◌<◌, ◌^◌, ◌∷◌, List, ℕ, [], length, Option, Some, None, sym, ap, ◌∙◌, subst, append-nil, arith}
+use Rattle.std.proofs.Common.{◌≡◌, List, ℕ, [], Some, None, sym, ap, ◌∙◌, subst, append-nil, arith}
 use Rattle.kn_bytes.specs.Outside.{Rose}
 use Rattle.kn_logic.specs.Formulas.{Problem, IsFormula}
 use Rattle.kn_format.specs.Texts.{IsWithinLimits}
@@ -13,9 +13,8 @@ use Rattle.kn_tool.specs.declared.answer.Answer.TheVariants.{Model, Refuted, Unk
 use Rattle.kn_tool.specs.declared.answer.Which.TheVariants.{Proof}
 use Rattle.kn_tool.specs.declared.reply.Reply.{Reply}
 use Rattle.kn_tool.specs.declared.reply.Reply.TheVariants as reply
-use Rattle.kn_tool.specs.Answers.{answer_text}
 use Rattle.kn_tool.specs.Changes.{Change, Sink}
-use Rattle.kn_tool.specs.Solves.{Writes, GotSteps, SolvedRow, model, refuted, unknown, no_memory, fails, satisfiable_text}
+use Rattle.kn_tool.specs.Solves.{Writes, GotSteps, SolvedRow, model, refuted, unknown, no_memory, fails}
 use Rattle.kn_tool.specs.Replies.{IsReply, IsShortMemory, OutcomeSays, Finds, IsAnswerOf, IsReplyOf}
 use Rattle.kn_tool.proofs.Replies.{short_reply}
 use Rattle.kn_tool.proofs.Solutions.{IsListed, nothing-got, steps-got}

@@ -1,5 +1,5 @@
 -- What was found of a generated formula, and the summary of it, have a row of `work`.
-use Rattle.std.proofs.Common.{◌≡◌, ◌++◌, ◌≤◌, ◌<◌, ◌^◌, List, [], ◌∷◌, ℕ, suc, map, length, Option, Some, None, refl, sym, ap, ◌∙◌, subst, arith}
+use Rattle.std.proofs.Common.{◌≡◌, ◌++◌, ◌≤◌, List, [], ◌∷◌, ℕ, suc, map, length, Some, None, refl, sym, ap, ◌∙◌, subst, arith}
 use Rattle.kn_logic.specs.Formulas.{Problem, IsUnsatisfiable}
 use Rattle.kn_gen.specs.Blocks.{generated}
 use Rattle.kn_extract.specs.Extractions.{IsExtraction}

@@ -1,5 +1,5 @@
 -- What `check` answers of two files.
-use Rattle.std.specs.Prelude.{ℕ, ◌≡◌, List, Option, None}
+use Rattle.std.specs.Prelude.{ℕ, List, Option, None}
 use Rattle.kn_logic.specs.Formulas.{Problem, IsUnsatisfiable}
 use Rattle.kn_format.specs.Grammar.{Spells, SpellsNone}
 use Rattle.kn_format.specs.Faults.{IsFirstFault, refusal}

@@ -1,5 +1,5 @@
 -- What was read of the file of a formula, and what is answered where there is none.
-use Rattle.std.specs.Prelude.{ℕ, ◌≡◌, List, Option, None}
+use Rattle.std.specs.Prelude.{ℕ, List, Option, None}
 use Rattle.kn_logic.specs.Formulas.{Problem}
 use Rattle.kn_format.specs.Grammar.{Spells, SpellsNone}
 use Rattle.kn_format.specs.Faults.{IsFirstFault, refusal}

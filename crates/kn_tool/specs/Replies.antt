@@ -1,5 +1,5 @@
 -- What the functions of this crate hand to one another. The contract of `run` does not speak of it.
-use Rattle.std.specs.Prelude.{ℕ, ◌≡◌, ◌⊎◌, Bool, List, Option, None, Some}
+use Rattle.std.specs.Prelude.{ℕ, ◌≡◌, ◌⊎◌, List, None, Some}
 use Rattle.kn_bytes.specs.Outside.{Rose, Got, GotPrefix}
 use Rattle.kn_logic.specs.Formulas.{Problem, Satisfies}
 use Rattle.kn_format.specs.declared.error.ReadError.{ReadError}

@@ -1,5 +1,5 @@
 -- What `trim` answers of two files.
-use Rattle.std.specs.Prelude.{ℕ, ◌≡◌, List, Option, None, Some}
+use Rattle.std.specs.Prelude.{ℕ, List, Option, None, Some}
 use Rattle.kn_bytes.specs.Outside.{Got}
 use Rattle.kn_logic.specs.Formulas.{Problem}
 use Rattle.kn_format.specs.Grammar.{Spells, SpellsNone}

@@ -1,10 +1,9 @@
-use Rattle.std.proofs.Common.{◌≡◌, ℕ, List, Option, Some, None, IfSome, IfNone, ap, subst, sym, ◌∙◌, inl, inr, refl}
-use Rattle.kn_logic.specs.Groups.{Gathered}
+use Rattle.std.proofs.Common.{ℕ, IfSome, IfNone, ap, subst, sym, ◌∙◌, inl, inr, refl}
 use Rattle.kn_logic.specs.Constraints.{klause}
 use Rattle.kn_guess.specs.Tables.{IsSeedTable}
 use Rattle.kn_extract.specs.Extractions.{replaced}
 use Rattle.kn_guess.specs.Guesses.{touches, IsSeedGuess}
-use Rattle.kn_extract.specs.Taking.{HasTried, Counts, IsCounted}
+use Rattle.kn_extract.specs.Taking.{Counts, IsCounted}
 use Rattle.kn_extract.proofs.Tried.{after-is, ids-low, seed-fits, seed-none, seed-taken}
 use Rattle.kn_extract.proofs.seeds.try_seed.Goals as goal
 

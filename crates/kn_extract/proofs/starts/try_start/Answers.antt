@@ -1,13 +1,9 @@
-use Rattle.std.proofs.Common.{◌≡◌, ℕ, ◌+◌, ◌-◌, List, length, Option, Some, None, IfSome, IfNone, ap, subst, sym, ◌∙◌, arith, inl, inr, refl}
+use Rattle.std.proofs.Common.{◌-◌, length, IfSome, IfNone, ap, subst, sym, ◌∙◌, arith, inl, inr, refl}
 use Rattle.kn_logic.specs.Constraints.{klause}
 use Rattle.kn_logic.specs.Groups.{IsPairGroup, is_covered}
 use Rattle.kn_guess.specs.Guesses.{IsPairGuess, IsNoPairGuess}
 use Rattle.kn_guess.specs.Tables.{IsPairTable}
-use Rattle.kn_extract.specs.Extractions.{IsPairTaken}
-use Rattle.kn_extract.specs.Kept.{Took, found_of}
-use Rattle.kn_extract.specs.Taking.{HasTried}
 use Rattle.kn_extract.proofs.Tried.{ids-low, after-is, pair-fits, pair-worth, pair-taken}
-use Rattle.kn_extract.proofs.Worth.{took}
 use Rattle.kn_extract.proofs.starts.try_start.Goals as goal
 
 pub returns-in_default-clause-tried : goal.returns-in_default-clause-tried

@@ -1,9 +1,9 @@
-use Rattle.std.proofs.Common.{◌≡◌, ℕ, ◌+◌, ◌≤◌, ◌<◌, ◌++◌, List, [], sym, ap, ap₂, subst, ◌∙◌, arith, IfSome, rules}
+use Rattle.std.proofs.Common.{◌+◌, ◌≤◌, ◌<◌, ◌++◌, sym, ap, ap₂, subst, ◌∙◌, arith, IfSome, rules}
 use Rattle.std.specs.Prelude.{option_to_list, option_copied}
 use Rattle.kn_logic.specs.Constraints.{Fits}
-use Rattle.kn_store.specs.Stores.{ids_of, constraints_of}
+use Rattle.kn_store.specs.Stores.{ids_of}
 use Rattle.kn_store.proofs.Public.{all-one, rises}
-use Rattle.kn_extract.proofs.Stored.{problem, up_to, up-next, none-up, all-up, found-fits}
+use Rattle.kn_extract.proofs.Stored.{problem, up-next, none-up, all-up, found-fits}
 use Rattle.kn_extract.proofs.storing.remainder.Goals as goal
 
 pub loop-place-init : goal.loop-place-init

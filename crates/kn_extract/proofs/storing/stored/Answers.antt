@@ -1,4 +1,4 @@
-use Rattle.std.proofs.Common.{◌≡◌, ℕ, ◌+◌, ◌≤◌, ◌<◌, ◌^◌, List, length, take, sym, ap, subst, ◌∙◌, arith, rules, min, [], ap₂}
+use Rattle.std.proofs.Common.{◌≤◌, ◌<◌, length, take, sym, ap, subst, ◌∙◌, arith, rules, [], ap₂}
 use Rattle.std.specs.List.{AllByRecursion}
 use Rattle.std.proofs.lemmas.List.{take_all, length-take}
 use Rattle.kn_logic.specs.Constraints.{Fits}

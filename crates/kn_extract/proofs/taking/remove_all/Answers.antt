@@ -1,4 +1,4 @@
-use Rattle.std.proofs.Common.{◌≡◌, ℕ, ◌+◌, ◌<◌, ◌==◌, not, filter, length, take, List, slice_index_or, sym, ap, ◌∙◌, rules}
+use Rattle.std.proofs.Common.{◌<◌, ◌==◌, not, filter, length, take, List, slice_index_or, sym, ap, ◌∙◌, rules}
 use Rattle.kn_store.specs.Stores.{Numbered, Stored}
 use Rattle.kn_extract.specs.Taking.{without}
 use Rattle.std.proofs.lemmas.Grind.{take_at_read}

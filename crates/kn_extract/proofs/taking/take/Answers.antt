@@ -1,4 +1,4 @@
-use Rattle.std.proofs.Common.{◌≡◌, length, map, ap, subst, sym, ◌∙◌}
+use Rattle.std.proofs.Common.{length, map, ap, subst, sym, ◌∙◌}
 use Rattle.std.specs.List.Sorted.{IsStrictlyIncreasing}
 use Rattle.kn_logic.specs.Constraints.{klause}
 use Rattle.kn_logic.specs.Groups.{IsGroup}

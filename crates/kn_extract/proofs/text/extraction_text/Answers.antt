@@ -1,10 +1,9 @@
-use Rattle.std.proofs.Common.{◌≡◌, ◌++◌, List, map, ap, ap₂, subst, sym, ◌∙◌, arith}
+use Rattle.std.proofs.Common.{◌++◌, map, ap, ap₂, subst, sym, ◌∙◌, arith}
 use Rattle.std.specs.List.{flat_map}
-use Rattle.kn_logic.specs.Formulas.{Problem}
 use Rattle.kn_format.specs.Grammar.{Spells}
 use Rattle.kn_format.specs.Texts.{knf_text, IsWithinLimits}
 use Rattle.kn_extract.specs.Kept.{found_of}
-use Rattle.kn_extract.specs.Texts.{group_line, extraction_text}
+use Rattle.kn_extract.specs.Texts.{group_line}
 use Rattle.kn_extract.proofs.Comments.{groups-found, spells-groups}
 use Rattle.kn_extract.proofs.text.extraction_text.Goals as goal
 

@@ -1,7 +1,7 @@
-use Rattle.std.proofs.Common.{◌≡◌, ◌<◌, ◌++◌, ◌∷◌, [], ℕ, List, length, take, get_or, sym, ap, ◌∙◌}
+use Rattle.std.proofs.Common.{◌++◌, ◌∷◌, [], ℕ, List, take, get_or, sym, ap, ◌∙◌}
 use Rattle.std.proofs.lemmas.List.{take_more}
 use Rattle.kn_logic.specs.Literals.{Literal, negated}
-use Rattle.kn_learn.specs.Reasons.{lit_or, negations_at}
+use Rattle.kn_learn.specs.Reasons.{negations_at}
 use Rattle.kn_learn.specs.Analyses.{IsLower}
 use Rattle.kn_learn.proofs.Lists.{all-at}
 use Rattle.kn_learn.proofs.Places.{at-length}

@@ -1,4 +1,4 @@
-use Rattle.std.proofs.Common.{◌≡◌, ◌≤◌, ◌<◌, ◌+◌, ◌*◌, ℕ, length, arith, ap, sym, ◌∙◌, refl, subst, Some}
+use Rattle.std.proofs.Common.{◌≡◌, ◌<◌, length, sym, ◌∙◌, refl, subst, Some}
 use Rattle.std.specs.List.{slice_get}
 use Rattle.kn_watch.specs.Trails.{Trailed}
 use Rattle.kn_learn.specs.declared.analysis.Walk.{Walk}

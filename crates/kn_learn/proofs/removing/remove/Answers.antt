@@ -1,4 +1,4 @@
-use Rattle.std.proofs.Common.{◌≡◌, ◌<◌, ◌∙◌, ℕ, List, length, get_or, sym, ap, subst, arith}
+use Rattle.std.proofs.Common.{◌∙◌, arith}
 use Rattle.kn_learn.specs.Analyses.{IsNeeded, IsLower}
 use Rattle.kn_learn.proofs.Lists.{at-same}
 use Rattle.kn_learn.proofs.Exploring.{explores-none, explores-join}

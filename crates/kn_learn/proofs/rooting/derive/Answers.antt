@@ -1,4 +1,4 @@
-use Rattle.std.proofs.Common.{◌≡◌, ◌≤◌, ◌+◌, ℕ, List, [], true, refl, sym, ap, subst, ◌∙◌, arith}
+use Rattle.std.proofs.Common.{◌≡◌, ℕ, List, [], true, refl, sym, ap, subst, ◌∙◌, arith}
 use Rattle.kn_learn.specs.Reasons.{contains}
 use Rattle.kn_learn.specs.Marking.{mark_at, is_seen}
 use Rattle.kn_learn.proofs.Lists.{contains-last}

@@ -1,4 +1,4 @@
-use Rattle.std.proofs.Common.{◌≡◌, ◌≤◌, ◌<◌, ◌+◌, ◌⊎◌, inl, inr, ℕ, List, [], true, refl, sym, ap, subst, ◌∙◌, arith}
+use Rattle.std.proofs.Common.{◌≡◌, inl, inr, ℕ, List, [], true, refl, sym, ap, subst, ◌∙◌, arith}
 use Rattle.kn_learn.specs.Reasons.{contains}
 use Rattle.kn_learn.specs.Marking.{is_seen}
 use Rattle.kn_learn.proofs.Coming.{walking-past, walking-derived, rested-by, not-assumed}

@@ -1,11 +1,8 @@
-use Rattle.std.proofs.Common.{◌≡◌, List, refl, sym, ap, ◌∙◌, subst, arith}
+use Rattle.std.proofs.Common.{List, refl, sym, ap, arith}
 use Rattle.kn_logic.specs.Literals.{Literal}
 use Rattle.kn_logic.specs.Constraints.{clause}
 use Rattle.kn_lines.specs.declared.line.Line.TheVariants.{Learned}
-use Rattle.kn_propagate.specs.Engines.{Live, live_in, IsAdded}
-use Rattle.kn_log.specs.declared.error.LogError.{LogError}
 use Rattle.kn_log.specs.declared.error.LogError.TheVariants.{Memory}
-use Rattle.kn_search.specs.Searches.{LogsPartNot}
 use Rattle.kn_search.proofs.Mirroring.{unused-id, mirrors-learned}
 use Rattle.kn_search.proofs.Parts.{part-line, part-may, line-fails, handed-on}
 use Rattle.kn_search.proofs.Held.{held-learned, kept-added}

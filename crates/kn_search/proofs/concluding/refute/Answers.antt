@@ -1,4 +1,4 @@
-use Rattle.std.proofs.Common.{◌≡◌, List, [], ap, ◌∙◌, arith}
+use Rattle.std.proofs.Common.{List, [], ap, ◌∙◌, arith}
 use Rattle.kn_logic.specs.Literals.{Literal}
 use Rattle.kn_logic.specs.Constraints.{Bounded, clause}
 use Rattle.kn_lines.specs.declared.line.Line.TheVariants.{Lemma}

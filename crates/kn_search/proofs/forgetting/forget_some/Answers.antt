@@ -1,9 +1,8 @@
-use Rattle.std.proofs.Common.{◌≡◌, ◌≤◌, ◌+◌, ℕ, List, length, Ok, refl, sym, ◌∙◌, ap, subst, arith}
+use Rattle.std.proofs.Common.{◌≡◌, ℕ, List, Ok, refl, sym, ◌∙◌, ap, subst, arith}
 use Rattle.std.specs.List.{AllByRecursion}
 use Rattle.kn_lines.specs.declared.line.Line.TheVariants.{Delete}
 use Rattle.kn_rules.specs.Steps.{step}
-use Rattle.kn_propagate.specs.Engines.{IsNoReason}
-use Rattle.kn_search.specs.Searches.{AreOnce, removed_all, IsLiveLearned, IsSplit}
+use Rattle.kn_search.specs.Searches.{removed_all, IsLiveLearned, IsSplit}
 use Rattle.kn_search.proofs.Forgotten.{mirrors-forgotten}
 use Rattle.kn_search.proofs.Splits.{part-all, held-rest, kept-rest, deletion-allowed}
 use Rattle.kn_search.proofs.Parts.{part-line, line-fails, handed-on}

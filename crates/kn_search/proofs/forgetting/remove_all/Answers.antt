@@ -1,4 +1,4 @@
-use Rattle.std.proofs.Common.{◌≡◌, Option, Some, refl, subst, ◌∙◌}
+use Rattle.std.proofs.Common.{◌≡◌, Some, refl, subst, ◌∙◌}
 use Rattle.std.specs.List.{slice_get}
 use Rattle.std.proofs.lemmas.List.Elements.{All-from_recursion}
 use Rattle.kn_watch.specs.Trails.{Trailed}

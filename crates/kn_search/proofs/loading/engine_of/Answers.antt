@@ -1,4 +1,4 @@
-use Rattle.std.proofs.Common.{◌≡◌, sym, ◌∙◌, arith}
+use Rattle.std.proofs.Common.{sym, ◌∙◌, arith}
 use Rattle.kn_search.proofs.Loaded.{next-unused, next-loaded}
 use Rattle.kn_search.proofs.loading.engine_of.Goals as goal
 

@@ -1,15 +1,13 @@
-use Rattle.std.proofs.Common.{◌≡◌, ◌≤◌, ◌+◌, ℕ, List, Option, refl, sym, ◌∙◌, subst, arith}
-use Rattle.kn_log.specs.declared.error.LogError.TheVariants.{Memory}
+use Rattle.std.proofs.Common.{◌+◌, refl, sym, ◌∙◌, subst, arith}
 use Rattle.kn_watch.specs.Trails.{Trailed, literals}
-use Rattle.kn_propagate.specs.Engines.{Live}
 use Rattle.kn_search.specs.declared.outcome.SearchError.TheVariants as failure
 use Rattle.kn_search.specs.Outcomes.{error_of}
 use Rattle.kn_search.specs.Deciding.{AreValuesOf}
-use Rattle.kn_search.specs.Searches.{AreHeld, AreKept, LogsPart, LogsPartNot}
+use Rattle.kn_search.specs.Searches.{AreHeld, AreKept}
 use Rattle.kn_search.proofs.Parts.{part-start, part-vars, fail-vars, part-learned, part-turn, turn-fails, may-fail, handed-on}
 use Rattle.kn_search.proofs.Held.{held-none, kept-first}
 use Rattle.kn_search.proofs.Models.{model-of}
-use Rattle.kn_search.proofs.Closing.{known-still, whole-still, ends-short, ends-failed, ends-model, ends-spent, ends-refuted, mirrors-moved, kept-moved}
+use Rattle.kn_search.proofs.Closing.{known-still, whole-still, ends-short, ends-failed, ends-model, ends-refuted, kept-moved}
 use Rattle.kn_search.proofs.searching.search.Goals as goal
 
 pub loop-conflict-init : goal.loop-conflict-init
