@@ -25,7 +25,7 @@ WORDS = {
     3: "a file could not be read",
     4: "a file could not be written",
     5: "memory was wanting",
-    6: "the words of the command line are no text",
+    6: "a word of the command line is not UTF-8",
 }
 
 
