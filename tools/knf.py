@@ -24,7 +24,7 @@ WORDS = {
     2: "the command line has no meaning",
     3: "a file could not be read",
     4: "a file could not be written",
-    5: "memory was wanting",
+    5: "memory was short",
     6: "a word of the command line is not UTF-8",
 }
 

@@ -3,12 +3,13 @@ use Rattle.std.proofs.Common.{◌≡◌, ℕ, zero, suc, ◌+◌, ◌-◌, ◌*�
 use Rattle.std.specs.List.{AllByRecursion}
 use Rattle.std.proofs.lemmas.Bool.{cases_Bool, cond_both, and_from, eqb-true, eqb-false, ltb-true, ltb-false, lt-ltb}
 use Rattle.std.proofs.lemmas.List.{get_or-append-add}
+use Rattle.kn_logic.proofs.Public.{true-negated}
 use Rattle.kn_logic.specs.Literals.{Literal, negated}
 use Rattle.kn_logic.specs.Assignments.{is_true, true_places}
 use Rattle.kn_counter.specs.Counters.{counting, counter, is_counted, bound_clauses}
 use Rattle.kn_counter.proofs.GridLemmas.{places-le-length}
 use Rattle.kn_counter.proofs.RowForms.{counter-form}
-use Rattle.kn_counter.proofs.ClauseTruth.{AllTrue, true-negated, true-first, true-alone}
+use Rattle.kn_counter.proofs.ClauseTruth.{AllTrue, true-first, true-alone}
 use Rattle.kn_counter.proofs.RowTruth.{one_if, IsRow, AreRows, counter-true, counter-counts}
 
 -- negated literals

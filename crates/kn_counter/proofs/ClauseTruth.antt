@@ -1,7 +1,8 @@
 -- When clauses have a true literal, and constraints hold under assignments that agree on their variables.
-use Rattle.std.proofs.Common.{◌≡◌, ℕ, zero, suc, ◌+◌, ◌≤◌, ◌<◌, ◌⊎◌, Bool, true, false, not, cond, List, [], ◌∷◌, ◌++◌, map, Option, Some, None, flat_map, refl, ap, subst, ◌∙◌, inl, inr, arith, eq-or-lt_of_le}
+use Rattle.std.proofs.Common.{◌≡◌, ℕ, zero, suc, ◌+◌, ◌≤◌, ◌<◌, ◌⊎◌, Bool, true, false, not, cond, List, [], ◌∷◌, ◌++◌, map, Option, Some, None, flat_map, ap, subst, ◌∙◌, inl, inr, arith, eq-or-lt_of_le}
 use Rattle.std.specs.List.{AllByRecursion}
 use Rattle.std.proofs.lemmas.Bool.{cases_Bool}
+use Rattle.kn_logic.proofs.Public.{true-negated, All-append}
 use Rattle.kn_logic.specs.Literals.{Literal, negated}
 use Rattle.kn_logic.specs.Assignments.{is_true, true_places}
 use Rattle.kn_logic.specs.Constraints.{clause, IsOff, Holds}
@@ -14,14 +15,6 @@ SomeTrue values lits = 1 ≤ true_places values lits
 -- some literal of each of the clauses is true
 abbrev pub AllTrue : List Bool → List (List Literal) → Type 0
 AllTrue values clauses = AllByRecursion (SomeTrue values) clauses
-
-flipped : (p v : Bool) → cond (not p) v (not v) ≡ not (cond p v (not v))
-flipped true v = refl
-flipped false true = refl
-flipped false false = refl
-
-pub true-negated : (values : List Bool) (l : Literal) → is_true values (negated l) ≡ not (is_true values l)
-true-negated values l = flipped l.positive _
 
 pub true-first : (values : List Bool) (l : Literal) (lits : List Literal) → is_true values l ≡ true → SomeTrue values (l ∷ lits)
 true-first values l lits e = let one = ap {B = ℕ} (λ t. cond t 1 0) e in omega (arith, one)
@@ -51,10 +44,6 @@ true-alone values l h =
     ]
 
 -- lists
-pub all-append : {A : Type 0} (P : A → Type 0) (xs ys : List A) → AllByRecursion P xs → AllByRecursion P ys → AllByRecursion P (xs ++ ys)
-all-append P [] ys h k = k
-all-append P (x ∷ xs) ys h k = (h.0, all-append P xs ys h.1 k)
-
 pub all-parts : {A : Type 0} (P : A → Type 0) (xs ys : List A) → AllByRecursion P (xs ++ ys) → AllByRecursion P xs × AllByRecursion P ys
 all-parts P [] ys h = (tt, h)
 all-parts P (x ∷ xs) ys h = let parts = all-parts P xs ys h.1 in ((h.0, parts.0), parts.1)
@@ -66,7 +55,7 @@ each-mapped values clause_of first (suc count) h = (h first (omega arith) (omega
 pub each-joined : (values : List Bool) (clauses_at : ℕ → List (List Literal)) (first count : ℕ) → ((j : ℕ) → first ≤ j → j < first + count → AllTrue values (clauses_at j)) → AllTrue values (flat_map clauses_at (counting first count))
 each-joined values clauses_at first zero h = tt
 each-joined values clauses_at first (suc count) h =
-    all-append (SomeTrue values) (clauses_at first) (flat_map clauses_at (counting (first + 1) count)) (h first (omega arith) (omega arith))
+    All-append (SomeTrue values) (clauses_at first) (flat_map clauses_at (counting (first + 1) count)) (h first (omega arith) (omega arith))
     (each-joined values clauses_at (first + 1) count (λ j low high. h j (omega arith) (omega arith)))
 
 pub joined-at : (values : List Bool) (clauses_at : ℕ → List (List Literal)) (first count j : ℕ) → first ≤ j → j < first + count → AllTrue values (flat_map clauses_at (counting first count)) → AllTrue values (clauses_at j)

@@ -2,12 +2,13 @@
 use Rattle.std.proofs.Common.{◌≡◌, ℕ, ◌+◌, ◌-◌, ◌*◌, Bool, true, false, not, cond, List, [], ◌∷◌, ◌++◌, length, take, map, Option, None, Some, IfSome, refl, sym, ap, ap₂, subst, ◌∙◌, inl, inr, arith, append_assoc, length-append}
 use Rattle.std.specs.List.{AllByRecursion}
 use Rattle.std.proofs.lemmas.List.{get_or_append_left, get_or-take, length-take-le}
+use Rattle.kn_logic.proofs.Public.{true-negated, All-append}
 use Rattle.kn_logic.specs.Literals.{Literal, negated, IsKnown, AreKnown}
 use Rattle.kn_logic.specs.Assignments.{value_of, is_true, true_places}
 use Rattle.kn_logic.specs.Constraints.{Bounded, is_clause, IsOff, Holds, Fits}
 use Rattle.kn_logic.specs.Formulas.{Problem, IsFormula, Satisfies}
 use Rattle.kn_counter.specs.Counters.{is_counted, bound_clauses, under, clauses_of, further, all_clauses, all_further, counted}
-use Rattle.kn_counter.proofs.ClauseTruth.{all-append, all-parts, true-negated, under-true, under-off, under-parts}
+use Rattle.kn_counter.proofs.ClauseTruth.{all-parts, under-true, under-off, under-parts}
 use Rattle.kn_counter.proofs.RowTruth.{AreRows}
 use Rattle.kn_counter.proofs.BoundTruth.{AreSame, counter_values, length-counter, length-negations, rows-stand, bound-true, bound-count}
 
@@ -81,7 +82,7 @@ all-hold whole values front vars base (c ∷ cs) is long agree fit h =
     let more = more_of values c in
     let rest = all_more values cs in
     let grown : length (front ++ more) ≡ base + further c = length-append front more ∙ ap₂ (λ a b. a + b) long (length-more values c) in
-    all-append (Holds whole) (clauses_of base c) (all_clauses (base + further c) cs)
+    All-append (Holds whole) (clauses_of base c) (all_clauses (base + further c) cs)
     (clauses-hold whole values front rest vars base c is long agree fit.0 h.0)
     (all-hold whole values (front ++ more) vars (base + further c) cs (is ∙ sym (append_assoc front more rest)) grown agree fit.1 h.1)
 
@@ -129,4 +130,4 @@ under-clauses guard (row ∷ rows) = (refl, under-clauses guard rows)
 
 pub all-clauses : (base : ℕ) (cs : List Bounded) → AllByRecursion (λ c. is_clause c ≡ true) (all_clauses base cs)
 all-clauses base [] = tt
-all-clauses base (c ∷ cs) = all-append (λ d. is_clause d ≡ true) (clauses_of base c) (all_clauses (base + further c) cs) (under-clauses c.guard (bound_clauses base c.bound c.lits)) (all-clauses (base + further c) cs)
+all-clauses base (c ∷ cs) = All-append (λ d. is_clause d ≡ true) (clauses_of base c) (all_clauses (base + further c) cs) (under-clauses c.guard (bound_clauses base c.bound c.lits)) (all-clauses (base + further c) cs)

@@ -2,11 +2,12 @@
 -- hold where at most k literals are true; and where the clauses hold, at most k literals are true.
 use Rattle.std.proofs.Common.{◌≡◌, ℕ, ◌+◌, ◌-◌, ◌≤◌, Bool, true, false, cond, leb, List, [], ◌∷◌, ◌++◌, flat_map, sym, ap, subst, ◌∙◌, inl, inr, arith, leb-true, le-leb}
 use Rattle.std.proofs.lemmas.Bool.{cases_Bool, cases_lt}
+use Rattle.kn_logic.proofs.Public.{All-append}
 use Rattle.kn_logic.specs.Literals.{Literal, negated}
 use Rattle.kn_logic.specs.Assignments.{value_of, is_true, true_places}
 use Rattle.kn_counter.specs.Counters.{counting}
 use Rattle.kn_counter.specs.Rows.{row_literal, first_at, carried_at, overflow_at, middle_at, rows_at}
-use Rattle.kn_counter.proofs.ClauseTruth.{SomeTrue, AllTrue, true-first, implies, implied, true-alone, all-append, all-parts, each-mapped, each-joined, joined-at}
+use Rattle.kn_counter.proofs.ClauseTruth.{SomeTrue, AllTrue, true-first, implies, implied, true-alone, all-parts, each-mapped, each-joined, joined-at}
 
 -- one where the literal is true
 abbrev pub one_if : List Bool → Literal → ℕ
@@ -65,7 +66,7 @@ middle-true values start k count x some above own le = (
     implies values (row_literal start 1) (row_literal (start + k) 1 ∷ [])
         (λ s. let one = row-read values start k count 1 above (omega arith) some s in
         true-first values (row_literal (start + k) 1) [] (row-true values (start + k) k (one_if values x + count) 1 own (omega arith) some (omega arith))),
-    all-append (SomeTrue values) (flat_map (carried_at start k x) (counting 2 (k - 1))) (overflow_at start k x ∷ [])
+    All-append (SomeTrue values) (flat_map (carried_at start k x) (counting 2 (k - 1))) (overflow_at start k x ∷ [])
         (each-joined values (carried_at start k x) 2 (k - 1) (λ j low high. carried-true values start k count j x above own low (omega arith)))
         (overflow-true values start k count x some above le, tt),
   ),
@@ -75,7 +76,7 @@ pub rows-true : (values : List Bool) (start k count : ℕ) (xs : List Literal) �
 rows-true values start k count [] some above rows le = tt
 rows-true values start k count (x ∷ []) some above rows le = (overflow-true values start k count x some above (omega arith), tt)
 rows-true values start k count (x ∷ y ∷ xs) some above rows le =
-    all-append (SomeTrue values) (middle_at start k x) (rows_at (start + k) k (y ∷ xs))
+    All-append (SomeTrue values) (middle_at start k x) (rows_at (start + k) k (y ∷ xs))
     (middle-true values start k count x some above rows.0 (omega arith))
     (rows-true values (start + k) k (one_if values x + count) (y ∷ xs) some rows.0 rows.1 (omega arith))
 
@@ -91,7 +92,7 @@ first-true values start k x some own = (
 -- the clauses of the counter hold where at most k literals are true
 pub counter-true : (values : List Bool) (start k : ℕ) (x y : Literal) (xs : List Literal) → 1 ≤ k → AreRows values start k 0 (x ∷ y ∷ xs) → true_places values (x ∷ y ∷ xs) ≤ k → AllTrue values (first_at start k x ++ rows_at start k (y ∷ xs))
 counter-true values start k x y xs some rows le =
-    all-append (SomeTrue values) (first_at start k x) (rows_at start k (y ∷ xs))
+    All-append (SomeTrue values) (first_at start k x) (rows_at start k (y ∷ xs))
     (first-true values start k x some rows.0)
     (rows-true values start k (one_if values x + 0) (y ∷ xs) some rows.0 rows.1 (omega arith))
 

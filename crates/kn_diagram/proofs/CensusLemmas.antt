@@ -1,8 +1,8 @@
 -- A census keeps its numbers while nodes join it.
-use Rattle.std.proofs.Common.{ℕ, zero, suc, ◌≡◌, ◌+◌, ◌<◌, ◌≤◌, ◌==◌, ◌&&◌, ◌||◌, Bool, true, false, not, if◌then◌else◌, List, [], ◌∷◌, ◌++◌, length, slice_index, slice_set, nat_eq, true≢false, refl, sym, ap, subst, ◌∙◌, arith, length-append}
+use Rattle.std.proofs.Common.{ℕ, zero, suc, ◌≡◌, ◌+◌, ◌<◌, ◌≤◌, ◌==◌, ◌&&◌, ◌||◌, Bool, true, false, not, if◌then◌else◌, List, [], ◌∷◌, ◌++◌, length, slice_index, slice_set, nat_eq, refl, sym, ap, subst, ◌∙◌, arith, length-append}
 use Rattle.std.specs.List.{IsDistinct, list_any}
 use Rattle.std.specs.Set.{is_member}
-use Rattle.std.proofs.lemmas.Bool.{eqb-true, eqb-false, eq-eqb, ne_eqb, cond-true, cond-false}
+use Rattle.std.proofs.lemmas.Bool.{eqb-true, eqb-false, eq-eqb, ne_eqb, cond-true, cond-false, not-true, not-false}
 use Rattle.std.proofs.lemmas.List.{append-nil, get_or-set_other}
 use Rattle.std.proofs.lemmas.Grind.{get_or-set_at}
 use Rattle.indexmap.specs.IndexSet.{insert_key}
@@ -101,20 +101,12 @@ zero-last counts more k e = ap (λ cs. slice_index cs k) e ∙ at counts k
     at (c ∷ cs) zero = refl
     at (c ∷ cs) (suc k) = at cs k
 
-from-not-true : (b : Bool) → not b ≡ true → b ≡ false
-from-not-true true e = absurd (true≢false (sym e))
-from-not-true false e = refl
-
-from-not-false : (b : Bool) → not b ≡ false → b ≡ true
-from-not-false true e = refl
-from-not-false false e = absurd (true≢false e)
-
 -- a node joins that was not there, and one that was there changes nothing
 pub census-joined : (es after : List (ℕ × ℕ)) (counts room : List ℕ) (depth node now : ℕ) (was : Bool) → IsCensus es counts → ((k : ℕ) → slice_index room k ≡ slice_index counts k)
     → depth < length room → after ≡ insert_key same_pair es (depth, node) → was ≡ not (list_any (same_pair (depth, node)) es) → was ≡ true → now ≡ slice_index room depth
     → IsCensus after (slice_set room depth (now + 1))
 census-joined es after counts room depth node now was c same within e is t at =
-    let fresh = from-not-true (list_any (same_pair (depth, node)) es) (sym is ∙ t) in
+    let fresh = not-true (list_any (same_pair (depth, node)) es) (sym is ∙ t) in
     let all : after ≡ es ++ (depth, node) ∷ [] = e ∙ cond-false (list_any (same_pair (depth, node)) es) es (es ++ (depth, node) ∷ []) fresh in
     subst (λ xs. IsCensus xs (slice_set room depth (now + 1))) (sym all)
     (subst (λ n. IsCensus (es ++ (depth, node) ∷ []) (slice_set room depth (n + 1))) (sym at)
@@ -123,6 +115,6 @@ census-joined es after counts room depth node now was c same within e is t at =
 pub census-stayed : (es after : List (ℕ × ℕ)) (counts room : List ℕ) (depth node : ℕ) (was : Bool) → IsCensus es counts → ((k : ℕ) → slice_index room k ≡ slice_index counts k)
     → after ≡ insert_key same_pair es (depth, node) → was ≡ not (list_any (same_pair (depth, node)) es) → was ≡ false → IsCensus after room
 census-stayed es after counts room depth node was c same e is t =
-    let there = from-not-false (list_any (same_pair (depth, node)) es) (sym is ∙ t) in
+    let there = not-false (list_any (same_pair (depth, node)) es) (sym is ∙ t) in
     let all : after ≡ es = e ∙ cond-true (list_any (same_pair (depth, node)) es) es (es ++ (depth, node) ∷ []) there in
     subst (λ xs. IsCensus xs room) (sym all) (census-same es counts room same c)

@@ -11,7 +11,7 @@ pub enum DiagramError {
     /// The result's function is wide at the variable of this number.
     Wide { level: u64 },
 
-    /// Memory ran out.
+    /// Memory is short.
     Memory,
 }
 

@@ -3,13 +3,14 @@ use Rattle.std.proofs.Common.{◌≡◌, ℕ, suc, ◌+◌, ◌≤◌, ◌<◌, 
 use Rattle.std.specs.Prelude.{◌⊎◌}
 use Rattle.std.specs.List.{list_any, flat_map, AllByRecursion}
 use Rattle.std.specs.List.Sorted.{IsStrictlyIncreasing}
-use Rattle.std.proofs.lemmas.Bool.{or_left, or_right, or_parts, or_cases, and_parts, eqb-true, eq-eqb, ne_eqb}
+use Rattle.std.proofs.lemmas.Bool.{or_left, or_right, or_parts, or_cases, and_parts, eqb-true, eq-eqb, ne_eqb, not-true}
 use Rattle.std.proofs.lemmas.List.{append-nil, length-map}
 use Rattle.std.proofs.lemmas.List.Filters.{length-filter_both}
 use Rattle.std.proofs.lemmas.List.Elements.{All-from_recursion}
 use Rattle.std.proofs.lemmas.Map.Keys.{sorted_from_strictly_increasing}
 use Rattle.std.proofs.lemmas.Map.Views.{length-le_from_below}
 use Rattle.std.proofs.lemmas.List.Folds.{list_any-append}
+use Rattle.kn_logic.proofs.Public.{All-append}
 use Rattle.kn_logic.specs.Literals.{Literal, names, IsKnown}
 use Rattle.kn_logic.specs.Constraints.{Bounded, is_clause, named, klause, Fits}
 use Rattle.kn_logic.specs.Formulas.{Problem, IsFormula}
@@ -19,15 +20,11 @@ use Rattle.kn_store.proofs.Public.{all-one, all-two, from-map, to-map, all-filte
 use Rattle.kn_guess.specs.Guesses.{in_klause}
 use Rattle.kn_extract.specs.Extractions.{Found, klause_of, numbered, stored_of, left, replaced, Tries}
 use Rattle.kn_extract.specs.Structure.{IsOver, ids_taken, IsOwned, Pairwise, TakesOthers, IsClear, IsForeign, StandApart}
-use Rattle.kn_extract.proofs.Lists.{not-true, filter-yes, filter-no, any-with, each-any, own-among}
+use Rattle.kn_extract.proofs.Lists.{filter-yes, filter-no, any-with, each-any, own-among}
 use Rattle.kn_extract.proofs.Steps.{IsStep, AreSteps, named_in, step-formula, among-parts}
 use Rattle.kn_extract.proofs.Steps.{known-named as known-of}
 
 -- ---- lists
-
-pub all-append : {X : Type 0} (P : X → Type 0) (xs ys : List X) → AllByRecursion P xs → AllByRecursion P ys → AllByRecursion P (xs ++ ys)
-all-append P [] ys a b = b
-all-append P (x ∷ xs) ys a b = (a.0, all-append P xs ys a.1 b)
 
 pub all-front : {X : Type 0} (P : X → Type 0) (xs ys : List X) → AllByRecursion P (xs ++ ys) → AllByRecursion P xs
 all-front P [] ys h = tt
@@ -77,7 +74,7 @@ all-unfilter {X} P test (x ∷ xs) h = at (test x) refl h (λ k. all-unfilter P 
 
 pairwise-end : {X : Type 0} (R : X → X → Type 0) (xs : List X) (y : X) → Pairwise R xs → AllByRecursion (λ x. R x y) xs → Pairwise R (xs ++ y ∷ [])
 pairwise-end R [] y a b = (tt, tt)
-pairwise-end R (x ∷ xs) y a b = (all-append (R x) xs (y ∷ []) a.0 (b.0, tt), pairwise-end R xs y a.1 b.1)
+pairwise-end R (x ∷ xs) y a b = (All-append (R x) xs (y ∷ []) a.0 (b.0, tt), pairwise-end R xs y a.1 b.1)
 
 map-append : {X Y : Type 0} (f : X → Y) (xs ys : List X) → map f (xs ++ ys) ≡ map f xs ++ map f ys
 map-append f [] ys = refl
@@ -111,7 +108,7 @@ chosen-ids test (p ∷ ps) r = at (test p.constraint) refl (chosen-ids test ps r
 
 rises-end : (xs : List ℕ) (y : ℕ) → Rises xs → AllByRecursion (λ x. x < y) xs → Rises (xs ++ y ∷ [])
 rises-end [] y a b = (tt, tt)
-rises-end (x ∷ xs) y a b = (all-append (λ z. x < z) xs (y ∷ []) a.0 (b.0, tt), rises-end xs y a.1 b.1)
+rises-end (x ∷ xs) y a b = (All-append (λ z. x < z) xs (y ∷ []) a.0 (b.0, tt), rises-end xs y a.1 b.1)
 
 rises-left : (test : Numbered → Bool) (ps : List Numbered) → Rises (ids_of ps) → Rises (ids_of (filter test ps))
 rises-left test [] h = tt
@@ -134,7 +131,7 @@ step-stored s x t step h =
       formula = step-formula s x t step h.formula;
       ascending = subst (λ u. IsStrictlyIncreasing (ids_of u.live)) (sym step.next) (increasing (ids_of (rest ++ came ∷ [])) ids);
       counted = subst (λ u. AllByRecursion (λ p. (1 ≤ p.id) × (p.id ≤ u.added)) u.live) (sym step.next)
-          (all-append (λ p. (1 ≤ p.id) × (p.id ≤ s.added + 1)) rest (came ∷ [])
+          (All-append (λ p. (1 ≤ p.id) × (p.id ≤ s.added + 1)) rest (came ∷ [])
           (all-one (λ p. (1 ≤ p.id) × (p.id ≤ s.added)) (λ p. (1 ≤ p.id) × (p.id ≤ s.added + 1)) (λ p k. (k.0, omega (arith, k.1))) rest low) ((omega arith, omega arith), tt));
     }
 
@@ -348,7 +345,7 @@ clear-lits aux cs lits clear there = all-one (λ l. named_in cs l.variable ≡ t
 after-step : (P : Bounded → Type 0) (s : Stored) (x : Found) (t : Stored) → (step : IsStep s x t) → AllByRecursion (λ p. P p.constraint) (left step.test s.live) → P (klause_of x) → AllByRecursion P (constraints_of t.live)
 after-step P s x t step rest last = subst (λ u. AllByRecursion P (constraints_of u.live)) (sym step.next)
     (to-map (λ p. p.constraint) P (left step.test s.live ++ record { id = s.added + 1; constraint = klause_of x } ∷ [])
-    (all-append (λ p. P p.constraint) (left step.test s.live) (record { id = s.added + 1; constraint = klause_of x } ∷ []) rest (last, tt)))
+    (All-append (λ p. P p.constraint) (left step.test s.live) (record { id = s.added + 1; constraint = klause_of x } ∷ []) rest (last, tt)))
 
 pub constraints-append : (ps qs : List Numbered) → constraints_of (ps ++ qs) ≡ constraints_of ps ++ constraints_of qs
 constraints-append ps qs = map-append (λ p. p.constraint) ps qs
@@ -463,13 +460,13 @@ step-moment f xs s x t m step = record {
   vars = ap (λ u. u.vars) step.next ∙ m.vars;
   added = let e = ap (λ u. u.added) step.next in let long = length-append xs (x ∷ []) in omega (arith, e, long, m.added);
   live = live-end f xs s x t m step;
-  plain = all-append (λ x. is_clause (klause_of x) ≡ false) xs (x ∷ []) m.plain (ne_eqb x.bound 1 (λ k. absurd (omega (arith, k, step.low))), tt);
-  owned = all-append (IsOwned f) xs (x ∷ []) m.owned (owned-end f xs s x t m step, tt);
+  plain = All-append (λ x. is_clause (klause_of x) ≡ false) xs (x ∷ []) m.plain (ne_eqb x.bound 1 (λ k. absurd (omega (arith, k, step.low))), tt);
+  owned = All-append (IsOwned f) xs (x ∷ []) m.owned (owned-end f xs s x t m step, tt);
   others = pairwise-end TakesOthers xs x m.others (others-end f xs s x t m step);
-  gone = all-append (λ x. IsGone x t.live) xs (x ∷ []) (all-one (λ y. IsGone y s.live) (λ y. IsGone y t.live) (gone-stays f xs s x t step) xs m.gone) (gone-own s x t step, tt);
-  over = all-append (λ x. IsOver f.vars x.group) xs (x ∷ []) m.over (over-end f s x t m.stored.formula m.vars step, tt);
+  gone = All-append (λ x. IsGone x t.live) xs (x ∷ []) (all-one (λ y. IsGone y s.live) (λ y. IsGone y t.live) (gone-stays f xs s x t step) xs m.gone) (gone-own s x t step, tt);
+  over = All-append (λ x. IsOver f.vars x.group) xs (x ∷ []) m.over (over-end f s x t m.stored.formula m.vars step, tt);
   few = let less = few-end s x t step in omega (arith, less, m.few);
-  within = all-append (λ x. x.bound ≤ f.vars) xs (x ∷ []) m.within (within-end f s x t m.vars step, tt);
+  within = All-append (λ x. x.bound ≤ f.vars) xs (x ∷ []) m.within (within-end f s x t m.vars step, tt);
   apart = pairwise-end StandApart xs x m.apart (all-one (λ y. IsGone y s.live) (λ y. StandApart y x) (apart-end s x t step) xs m.gone);
 }
 

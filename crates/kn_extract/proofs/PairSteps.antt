@@ -2,7 +2,7 @@
 use Rattle.std.proofs.Common.{◌≡◌, ℕ, suc, ◌+◌, ◌≤◌, ◌==◌, Bool, true, false, not, cond, ◌&&◌, ◌||◌, List, [], ◌∷◌, ◌++◌, length, map, Option, Some, None, refl, sym, ap, ap₂, subst, ◌∙◌, inl, inr, arith, true≢false}
 use Rattle.std.specs.Prelude.{◌⊎◌, nat_lt, zero, option_to_list}
 use Rattle.std.specs.List.{list_any, list_all, AllByRecursion, range_with_len, flat_map}
-use Rattle.std.proofs.lemmas.Bool.{or_left, or_right, or_parts, and_parts, or_cases, eqb-true, eq-eqb, ne_eqb}
+use Rattle.std.proofs.lemmas.Bool.{or_left, or_right, or_parts, and_parts, or_cases, eqb-true, eq-eqb, ne_eqb, and_from}
 use Rattle.kn_logic.specs.Literals.{Literal, is_same, has, names, places, AreDifferent, IsKnown}
 use Rattle.kn_logic.specs.Constraints.{Bounded, is_clause, named, Fits}
 use Rattle.kn_logic.specs.Formulas.{IsFormula}
@@ -17,7 +17,7 @@ use Rattle.kn_guess.specs.Guesses.{joins, joined, candidates, pair_group, IsPair
 use Rattle.kn_extract.specs.Extractions.{Found, IsPairTaken}
 use Rattle.kn_extract.proofs.Steps.{IsStep, named_in, go}
 use Rattle.kn_extract.proofs.SeedSteps.{named-from, has-names, any-kept, any-some}
-use Rattle.kn_extract.proofs.Lists.{and-both, filter-yes, filter-no, own-has, rises-different}
+use Rattle.kn_extract.proofs.Lists.{filter-yes, filter-no, own-has, rises-different}
 
 -- what each literal of a list does to a count
 one-false : (test : Literal → Bool) (lits : List Literal) → places test lits ≤ length lits
@@ -157,7 +157,7 @@ pair-turned (c ∷ cs) a b e = at (or_cases (is_pair_of a b c) (has_pair cs a b)
     at (inl s) more =
         let p = and_parts (is_binary c) (has c.lits a && has c.lits b) s in
         let q = and_parts (has c.lits a) (has c.lits b) p.1 in
-        or_left (is_pair_of b a c) (has_pair cs b a) (and-both (is_binary c) (has c.lits b && has c.lits a) p.0 (and-both (has c.lits b) (has c.lits a) q.1 q.0))
+        or_left (is_pair_of b a c) (has_pair cs b a) (and_from (is_binary c) (has c.lits b && has c.lits a) p.0 (and_from (has c.lits b) (has c.lits a) q.1 q.0))
     at (inr s) more = or_right (is_pair_of b a c) (has_pair cs b a) (more s)
 
 has-end : (xs : List Literal) (l a : Literal) → has (xs ++ l ∷ []) a ≡ true → (has xs a ≡ true) ⊎ (a ≡ l)
@@ -258,10 +258,10 @@ covered-of border c a b i j d e =
     let p = and_parts (is_binary c) (has c.lits a && has c.lits b) e in
     let q = and_parts (has c.lits a) (has c.lits b) p.1 in
     let r = and_parts (is_clause c) (is_pair c.lits) p.0 in
-    and-both (is_binary c) (list_all (has border) c.lits) p.0 (at (exactly c.lits a b r.1 q.0 q.1 d))
+    and_from (is_binary c) (list_all (has border) c.lits) p.0 (at (exactly c.lits a b r.1 q.0 q.1 d))
   where
     two : (x y : Literal) → has border x ≡ true → has border y ≡ true → list_all (has border) (x ∷ y ∷ []) ≡ true
-    two x y f g = and-both (has border x) (has border y && true) f (and-both (has border y) true g refl)
+    two x y f g = and_from (has border x) (has border y && true) f (and_from (has border y) true g refl)
 
     at : (c.lits ≡ a ∷ b ∷ []) ⊎ (c.lits ≡ b ∷ a ∷ []) → list_all (has border) c.lits ≡ true
     at (inl s) = ap (list_all (has border)) s ∙ two a b i j
@@ -339,7 +339,7 @@ pub pair-each : (s : Stored) (start : ℕ) (g : Gathered) (ids : List ℕ) → I
 pair-each s start g ids h a b i j d =
     let cs = constraints_of s.live in
     let clique : Clique cs (pair_group s h.first) = clique-joined cs h.first.lits (candidates s.vars)
-    (λ a b i j d. found-any (is_pair_of a b) s.live start h.first h.there (and-both (is_binary h.first) (has h.first.lits a && has h.first.lits b) h.binary (and-both (has h.first.lits a) (has h.first.lits b) i j))) in
+    (λ a b i j d. found-any (is_pair_of a b) s.live start h.first h.there (and_from (is_binary h.first) (has h.first.lits a && has h.first.lits b) h.binary (and_from (has h.first.lits a) (has h.first.lits b) i j))) in
     let pair = clique a b (sym (h.members a) ∙ i) (sym (h.members b) ∙ j) d in
     ap (λ cs. has_pair cs a b) h.taken ∙ chosen-any (is_pair_of a b) (is_covered g.border) s.live (λ c e. covered-of g.border c a b i j d e) pair
 

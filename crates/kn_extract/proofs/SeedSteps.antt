@@ -2,7 +2,7 @@
 use Rattle.std.proofs.Common.{◌≡◌, ℕ, ◌+◌, ◌≤◌, ◌<◌, ◌==◌, Bool, true, false, not, cond, ◌&&◌, ◌||◌, List, [], ◌∷◌, length, map, filter, refl, sym, ap, ap₂, subst, ◌∙◌, inl, inr, arith, true≢false}
 use Rattle.std.specs.Prelude.{◌⊎◌}
 use Rattle.std.specs.List.{list_any, AllByRecursion}
-use Rattle.std.proofs.lemmas.Bool.{and_parts, or_cases, or_left, or_right}
+use Rattle.std.proofs.lemmas.Bool.{and_parts, or_cases, or_left, or_right, and_from, not-true}
 use Rattle.kn_logic.specs.Literals.{Literal, is_same, has, names, AreKnown, IsKnown}
 use Rattle.kn_logic.specs.Constraints.{Bounded, is_clause, named, Fits}
 use Rattle.kn_logic.specs.Formulas.{IsFormula}
@@ -13,15 +13,15 @@ use Rattle.kn_store.proofs.Public.{all-one, all-two, rises}
 use Rattle.kn_guess.specs.Guesses.{in_klause, in_binary, share, stands, is_seed, IsClosedFrom, IsLeastFrom, touches, IsBorder, IsSeedGuess}
 use Rattle.kn_extract.specs.Extractions.{Found, IsSeedTaken}
 use Rattle.kn_extract.proofs.Steps.{IsStep, named_in, keep, go, known-named}
-use Rattle.kn_extract.proofs.Lists.{and-both, not-true, any-none, each-none, any-with, passes, own-has, among-filter, rises-different}
+use Rattle.kn_extract.proofs.Lists.{any-none, each-none, any-with, passes, own-has, among-filter, rises-different}
 
 -- no member of the least set stands in a klause
 free-closed : (cs : List Bounded) (seed : ℕ) (set : List ℕ) → in_klause cs seed ≡ false → IsClosedFrom cs seed set → IsClosedFrom cs seed (filter (λ v. not (in_klause cs v)) set)
 free-closed cs seed set free closed = record {
-  seed_in = among-filter (λ v. not (in_klause cs v)) seed set ∙ and-both (not (in_klause cs seed)) (is_among set seed) (ap not free) closed.seed_in;
+  seed_in = among-filter (λ v. not (in_klause cs v)) seed set ∙ and_from (not (in_klause cs seed)) (is_among set seed) (ap not free) closed.seed_in;
   neighbours = λ x z i low none near.
       let q = and_parts (not (in_klause cs x)) (is_among set x) (sym (among-filter (λ v. not (in_klause cs v)) x set) ∙ i) in
-      among-filter (λ v. not (in_klause cs v)) z set ∙ and-both (not (in_klause cs z)) (is_among set z) (ap not none) (closed.neighbours x z q.1 low none near);
+      among-filter (λ v. not (in_klause cs v)) z set ∙ and_from (not (in_klause cs z)) (is_among set z) (ap not none) (closed.neighbours x z q.1 low none near);
 }
 
 pub least-free : (cs : List Bounded) (seed : ℕ) (set : List ℕ) → in_klause cs seed ≡ false → IsLeastFrom cs seed set → (x : ℕ) → is_among set x ≡ true → in_klause cs x ≡ false
@@ -32,7 +32,7 @@ least-free cs seed set free least x i =
 -- a constraint that names a member is a clause
 clause-cases : (c : Bounded) (x : ℕ) → names (named c) x ≡ true → (not (is_clause c) && names (named c) x) ≡ false → (t : Bool) → is_clause c ≡ t → is_clause c ≡ true
 clause-cases c x i e true is = is
-clause-cases c x i e false is = absurd (true≢false (sym (and-both (not (is_clause c)) (names (named c) x) (ap not is) i) ∙ e))
+clause-cases c x i e false is = absurd (true≢false (sym (and_from (not (is_clause c)) (names (named c) x) (ap not is) i) ∙ e))
 
 touched-clause : (set : List ℕ) (cs : List Bounded) (c : Bounded) → ((x : ℕ) → is_among set x ≡ true → in_klause cs x ≡ false)
     → touches set c ≡ true → ((x : ℕ) → in_klause cs x ≡ false → (not (is_clause c) && names (named c) x) ≡ false) → is_clause c ≡ true
@@ -96,11 +96,11 @@ seed-free cs seed e =
 
 named-closed : (cs : List Bounded) (seed : ℕ) (set : List ℕ) → named_in cs seed ≡ true → IsClosedFrom cs seed set → IsClosedFrom cs seed (filter (named_in cs) set)
 named-closed cs seed set there closed = record {
-  seed_in = among-filter (named_in cs) seed set ∙ and-both (named_in cs seed) (is_among set seed) there closed.seed_in;
+  seed_in = among-filter (named_in cs) seed set ∙ and_from (named_in cs seed) (is_among set seed) there closed.seed_in;
   neighbours = λ x z i low none near.
       let q = and_parts (named_in cs x) (is_among set x) (sym (among-filter (named_in cs) x set) ∙ i) in
       let other = named-from cs (λ c. names (named c) x && names (named c) z) z (λ c k. (and_parts (names (named c) x) (names (named c) z) k).1) near in
-      among-filter (named_in cs) z set ∙ and-both (named_in cs z) (is_among set z) other (closed.neighbours x z q.1 low none near);
+      among-filter (named_in cs) z set ∙ and_from (named_in cs z) (is_among set z) other (closed.neighbours x z q.1 low none near);
 }
 
 least-named : (cs : List Bounded) (seed : ℕ) (set : List ℕ) → named_in cs seed ≡ true → IsLeastFrom cs seed set → (x : ℕ) → is_among set x ≡ true → named_in cs x ≡ true

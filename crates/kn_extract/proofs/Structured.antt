@@ -5,6 +5,7 @@ use Rattle.std.specs.List.{list_any, flat_map, range_with_len, AllByRecursion}
 use Rattle.std.proofs.lemmas.Bool.{or_cases, eqb-true}
 use Rattle.std.proofs.lemmas.List.{length-map}
 use Rattle.std.proofs.lemmas.List.Folds.{list_any-append}
+use Rattle.kn_logic.proofs.Public.{All-append}
 use Rattle.kn_logic.specs.Constraints.{Bounded, Holds}
 use Rattle.kn_logic.specs.Formulas.{Problem, IsFormula, Satisfies}
 use Rattle.kn_logic.specs.Groups.{is_among}
@@ -16,7 +17,7 @@ use Rattle.kn_extract.specs.Extractions.{Found, klause_of, IsSeedTaken, IsPairTa
 use Rattle.kn_extract.specs.Structure.{ids_taken, IsRemainder, IsOwned, IsClear, HoldTaken}
 use Rattle.kn_extract.proofs.SeedSteps.{seed-step}
 use Rattle.kn_extract.proofs.PairSteps.{pair-step, Some-inj}
-use Rattle.kn_extract.proofs.Moments.{IsMoment, IsGone, unused, klauses, tries-moment, start-moment, of-numbered, numbered-rises, all-front, all-back, constraints-append, all-unfilter, all-append}
+use Rattle.kn_extract.proofs.Moments.{IsMoment, IsGone, unused, klauses, tries-moment, start-moment, of-numbered, numbered-rises, all-front, all-back, constraints-append, all-unfilter}
 
 pub at-end : (f last : Problem) (found : List Found) → IsFormula f → (e : IsExtraction f found last) → IsMoment f found e.rest
 at-end f last found fits e = subst (λ z. IsMoment f z e.rest) (sym e.found_are)
@@ -115,5 +116,5 @@ limits-at-end f last found fits e h =
     record {
       vars = omega (arith, r.vars, h.vars);
       count = omega (arith, long, m.few, h.count);
-      bounds = subst (AllByRecursion small) (sym r.constraints) (all-append small (constraints_of (unused f found)) (map klause_of found) rest came);
+      bounds = subst (AllByRecursion small) (sym r.constraints) (All-append small (constraints_of (unused f found)) (map klause_of found) rest came);
     }

@@ -3,6 +3,7 @@ use Rattle.std.proofs.Common.{◌≡◌, ℕ, suc, ◌+◌, ◌-◌, ◌≤◌, 
 use Rattle.std.specs.Prelude.{◌⊎◌, zero}
 use Rattle.std.specs.List.{AllByRecursion, range_with_len}
 use Rattle.std.proofs.lemmas.List.{append-nil}
+use Rattle.kn_logic.proofs.Public.{All-append}
 use Rattle.kn_logic.specs.Literals.{Literal, AreKnown, AreDifferent}
 use Rattle.kn_logic.specs.Constraints.{Bounded, klause, Fits}
 use Rattle.kn_logic.specs.Groups.{Gathered, IsPairGroup, is_among, is_covered}
@@ -17,7 +18,6 @@ use Rattle.kn_extract.proofs.Steps.{klause-fits}
 use Rattle.kn_extract.proofs.SeedSteps.{seed-known}
 use Rattle.kn_extract.proofs.PairSteps.{pair-known, pair-different, pair-cardinal}
 use Rattle.kn_extract.proofs.Unique.{guess-different, seed-guess-one}
-use Rattle.kn_extract.proofs.Moments.{all-append}
 use Rattle.kn_extract.proofs.Gone.{without-chosen}
 use Rattle.kn_extract.proofs.Worth.{took, ids-again}
 
@@ -118,7 +118,7 @@ tried-next Takes n s t u old mid new (more, grown, are, tries) (inl (none, same,
 tried-next Takes n s t u old mid new (more, grown, are, tries) (inr (k, takes, is, longer)) = (
   more ++ k ∷ [],
   longer ∙ ap (λ z. z ++ k ∷ []) grown ∙ append_assoc old more (k ∷ []),
-  all-append IsTaken more (k ∷ []) are (is, tt),
+  All-append IsTaken more (k ∷ []) are (is, tt),
   subst (λ z. Tries Takes z s (map found_of (more ++ k ∷ [])) u) (sym (range-next 1 n)) (subst (λ z. Tries Takes (range_with_len 1 n ++ (1 + n) ∷ []) s z u) (sym (map-append found_of more (k ∷ [])))
       (tries-append Takes (range_with_len 1 n) ((1 + n) ∷ []) s t u (map found_of more) (found_of k ∷ []) tries
       (inr (found_of k, u, [], refl, subst (λ z. Takes t z (found_of k) u) {x = n + 1} {y = 1 + n} (omega arith) takes, (refl, refl))))),

@@ -3,6 +3,7 @@ use Rattle.std.proofs.Common.{◌≡◌, ℕ, suc, ◌+◌, ◌≤◌, ◌<◌, 
 use Rattle.std.specs.Prelude.{◌⊎◌, zero}
 use Rattle.std.specs.List.{list_any, AllByRecursion, range_with_len}
 use Rattle.std.proofs.lemmas.Bool.{or_left, or_parts, or_cases, eqb-true, eq-eqb, ne_eqb, cond-true, cond-false}
+use Rattle.kn_logic.proofs.Public.{same_sign}
 use Rattle.kn_logic.specs.Literals.{Literal, has, names, places, AreDifferent}
 use Rattle.kn_logic.specs.Constraints.{Bounded, klause}
 use Rattle.kn_logic.specs.Formulas.{Problem}
@@ -20,10 +21,6 @@ use Rattle.kn_extract.proofs.PairSteps.{Some-inj}
 false-if : (p : Bool) → cond p (not p) (not (not p)) ≡ false
 false-if true = refl
 false-if false = refl
-
-true-if : (p : Bool) → cond p p (not p) ≡ true
-true-if true = refl
-true-if false = refl
 
 apart-places : (w : ℕ → Bool) (v : ℕ) (b : Bool) (ls : List Literal) → names ls v ≡ false → places (is_true_by (λ x. cond (v == x) b (w x))) ls ≡ places (is_true_by w) ls
 apart-places w v b [] e = refl
@@ -51,7 +48,7 @@ just-so-many (suc k) (l ∷ ls) d h =
     let r = just-so-many k ls d.1 (omega (arith, h)) in
     let w = r.0 in
     let e : places (is_true_by (λ x. cond (l.variable == x) l.positive (w x))) (l ∷ ls) ≡ 1 + k =
-    ap₂ {C = ℕ} (λ t n. cond t 1 0 + n) (head-value w l l.positive ∙ true-if l.positive) (apart-places w l.variable l.positive ls d.0 ∙ r.1) in
+    ap₂ {C = ℕ} (λ t n. cond t 1 0 + n) (head-value w l l.positive ∙ same_sign l.positive) (apart-places w l.variable l.positive ls d.0 ∙ r.1) in
     ((λ x. cond (l.variable == x) l.positive (w x)), omega (arith, e))
 
 -- ---- a group has one bound

@@ -14,7 +14,7 @@ use std::alloc::Global;
 
 /// The extraction of a formula with at most 10,000,000 constraints. Each variable is tried as a seed, and then each
 /// binary clause that is left as a start; a group that counts is taken, and its klause comes at the end. An error
-/// where memory is wanting; the formula is given up then.
+/// where memory is short; the formula is given up then.
 pub fn extract(alloc: Global, f: Formula) -> Result<Extraction, NoMemory>
     requires { length f.constraints ≤ most_constraints }
     ensures original { IfOk result (λ e. e.original ≡ f) }

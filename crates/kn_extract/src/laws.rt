@@ -23,7 +23,8 @@ pub fn an_extraction_keeps_models()
 {}
 
 /// A law over the definitions, and no code: what remains is the constraints that no group took, and the klauses. It is
-/// a formula, and within the limits of texts where the first formula is. Its models make the klauses true; and where they make the clauses true that were taken, they are models of the formula.
+/// a formula, and within the limits of texts where the first formula is. Its models make the klauses true; and where
+/// they make the clauses true that were taken, they are models of the formula.
 pub fn what_remains_is_known()
     ensures remainder { (f last : Problem) (found : List Found) → IsFormula f → IsExtraction f found last → IsRemainder f found last }
     ensures formula { (f last : Problem) (found : List Found) → IsFormula f → IsExtraction f found last → IsFormula last }
@@ -33,8 +34,8 @@ pub fn what_remains_is_known()
 {}
 
 /// A law over the definitions, and no code: the clauses of a group are those that the formula has under its ids, and no
-/// clause is taken twice. Its variables are those of the formula, and its auxiliary variables stand in no constraint that
-/// remains, and in no other group.
+/// clause is taken twice. Its variables are those of the formula, and its auxiliary variables stand in no constraint
+/// that remains, and in no other group.
 pub fn groups_stand_apart()
     ensures owned { (f last : Problem) (found : List Found) → IsFormula f → IsExtraction f found last → AllByRecursion (IsOwned f) found }
     ensures others { (f last : Problem) (found : List Found) → IsFormula f → IsExtraction f found last → Pairwise TakesOthers found }

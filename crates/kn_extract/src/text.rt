@@ -15,7 +15,7 @@ use std::alloc::Global;
 
 /// The text of an extraction: for each group that has auxiliary variables a comment `c group` with these
 /// variables, in the order in which the groups were taken; then the formula that remains, as KNF. An error where
-/// memory is wanting.
+/// memory is short.
 pub fn extraction_text(alloc: Global, e: &Extraction) -> Result<Vec<u8>, NoMemory>
     ensures text { IfOk result (λ text. text.items ≡ extraction_text (map found_of e.now.taken) e.now.formula) }
     ensures again { IfOk result (λ text. IsWithinLimits e.now.original → Spells text.items e.now.formula) }

@@ -6,6 +6,7 @@ use Rattle.std.proofs.lemmas.Slice.Eq.{bytes_eq-Decides}
 use Rattle.std.specs.Prelude.{Result, codes}
 use Rattle.std.specs.Str.{bytes_eq}
 use Rattle.std.specs.List.{AllByRecursion}
+use Rattle.kn_logic.proofs.Public.{known-append}
 use Rattle.kn_logic.specs.Literals.{Literal, IsKnown, AreDifferent, names}
 use Rattle.kn_logic.specs.Constraints.{Bounded, clause, klause, guarded_klause, named, is_clause, IsWithin, Fits}
 use Rattle.kn_text.specs.Numbers.{number_of, literal_of, is_end}
@@ -17,7 +18,7 @@ use Rattle.kn_format.specs.declared.place.Place.TheVariants.{Between, Guard, Bou
 use Rattle.kn_format.specs.Grammar.{highest_bound, ClauseThen, BoundThen, KlauseThen, GuardThen, ConstraintThen, SpellConstraints}
 use Rattle.kn_format.specs.Faults.{Reading, nothing, with_literal, with_bound, begin, empty_clause, first_word, guard, bound, within_clause, within_klause, after, after_words, ◌>>=◌, bad_token, variable_above_header, bound_too_large, repeated_variable, extra_constraint}
 use Rattle.kn_format.specs.Reading.{is_marked}
-use Rattle.kn_format.proofs.Begun.{known_append, different_more, named_more}
+use Rattle.kn_format.proofs.Begun.{different_more, named_more}
 use Rattle.kn_format.proofs.Steps.{reading}
 use Rattle.kn_format.proofs.Spelled.{Then, joined, Rest}
 
@@ -100,7 +101,7 @@ clause_goes_on format begun word words l e (c ∷ cs) rest = record { lits = l �
 
 good_clause : (vars : ℕ) (begun : Bounded) (l : Literal) → Good vars Clause begun → IsKnown vars l → Good vars Clause (with_literal begun l)
 good_clause vars begun l good k = record {
-  within = record { guard = good.within.guard; lits = known_append vars begun.lits (l ∷ []) good.within.lits (k, tt) };
+  within = record { guard = good.within.guard; lits = known-append vars begun.lits (l ∷ []) good.within.lits (k, tt) };
   clause = good.clause;
   different = λ e. absurd cc;
 }
@@ -130,7 +131,7 @@ klause_goes_on format begun word words l e (c ∷ cs) rest =
 
 good_klause : (vars : ℕ) (begun : Bounded) (l : Literal) → Good vars Klause begun → IsKnown vars l → names (named begun) l.variable ≡ false → Good vars Klause (with_literal begun l)
 good_klause vars begun l good k apart = record {
-  within = record { guard = good.within.guard; lits = known_append vars begun.lits (l ∷ []) good.within.lits (k, tt) };
+  within = record { guard = good.within.guard; lits = known-append vars begun.lits (l ∷ []) good.within.lits (k, tt) };
   clause = λ e. absurd cc;
   different = λ e. rw named_more (different_more (named begun) l (good.different refl) apart);
 }

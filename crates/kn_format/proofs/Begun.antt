@@ -3,19 +3,14 @@ use Rattle.std.proofs.Common.{is_eq, nat_cmp, ◌≡◌, ℕ, ◌==◌, Bool, tr
 use Rattle.std.proofs.lemmas.List.Folds.{list_any-append}
 use Rattle.std.specs.Prelude.{option_to_list, nat_eq}
 use Rattle.std.specs.Cmp.{unsigned_tied}
-use Rattle.kn_logic.specs.Literals.{Literal, IsKnown, AreKnown, AreDifferent, names}
+use Rattle.std.proofs.lemmas.Bool.{or_from}
+use Rattle.kn_logic.proofs.Public.{known-append}
+use Rattle.kn_logic.specs.Literals.{Literal, IsKnown, AreDifferent, names}
 use Rattle.kn_logic.specs.Constraints.{Bounded, named}
 use Rattle.kn_format.specs.declared.place.Place.{Place}
 use Rattle.kn_format.specs.declared.place.Place.TheVariants.{Klause}
 use Rattle.kn_format.specs.Faults.{with_literal}
 use Rattle.kn_format.specs.Reading.{Keeps}
-
-pub known_append : (vars : ℕ) (xs ys : List Literal) → AreKnown vars xs → AreKnown vars ys → AreKnown vars (xs ++ ys)
-known_append vars [] ys first behind = behind
-known_append vars (x ∷ xs) ys first behind = (first.0, known_append vars xs ys first.1 behind)
-
-pub or_false : (b c : Bool) → b ≡ false → c ≡ false → (b || c) ≡ false
-or_false b c e f = rw e f
 
 pub names_append : (xs ys : List Literal) (v : ℕ) → names (xs ++ ys) v ≡ (names xs v || names ys v)
 names_append xs ys v = list_any-append (λ l. l.variable == v) xs ys
@@ -35,7 +30,7 @@ pub different_more : (xs : List Literal) (l : Literal) → AreDifferent xs → n
 different_more [] l different apart = (refl, tt)
 different_more (x ∷ xs) l different apart =
     let here : (l.variable == x.variable) ≡ false = same_apart x l (or_left (x.variable == l.variable) (names xs l.variable) apart) in (
-      names_append xs (l ∷ []) x.variable ∙ or_false (names xs x.variable) (names (l ∷ []) x.variable) different.0 (or_false (l.variable == x.variable) false here refl),
+      names_append xs (l ∷ []) x.variable ∙ or_from (names xs x.variable) (names (l ∷ []) x.variable) different.0 (or_from (l.variable == x.variable) false here refl),
       different_more xs l different.1 (or_right (x.variable == l.variable) (names xs l.variable) apart),
     )
 
@@ -54,7 +49,7 @@ begun_of guard bound lits = record { guard = guard; bound = bound; lits = lits }
 keeps_literal : (vars : ℕ) (c : Bounded) (l : Literal) (old new : ℕ → Bool) → Keeps vars Klause c old → IsKnown vars l → names (named c) l.variable ≡ false
     → ((v : ℕ) → new v ≡ cond (nat_eq l.variable v) true (old v)) → Keeps vars Klause (with_literal c l) new
 keeps_literal vars c l old new kept known apart joined = record {
-  within = record { guard = kept.within.guard; lits = known_append vars c.lits (l ∷ []) kept.within.lits (known, tt) };
+  within = record { guard = kept.within.guard; lits = known-append vars c.lits (l ∷ []) kept.within.lits (known, tt) };
   clause = λ e. absurd cc;
   different = λ e. rw named_more (different_more (named c) l (kept.different refl) apart);
   seen = λ e v.

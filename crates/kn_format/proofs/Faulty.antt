@@ -1,7 +1,7 @@
 -- The first fault is the first word with which no formula begins so, or the end of the text.
 use Rattle.std.proofs.Common.{◌≡◌, ℕ, ◌≤◌, ◌<◌, ◌+◌, ◌==◌, Bool, true, false, if◌then◌else◌, List, [], ◌∷◌, ◌++◌, length, Ok, Err, refl, sym, ap, subst, ◌∙◌, append_assoc, arith, inl, inr, ◌⊎◌}
 use Rattle.std.proofs.lemmas.List.{append-nil}
-use Rattle.std.proofs.lemmas.Bool.{eqb-true, eq-eqb}
+use Rattle.std.proofs.lemmas.Bool.{eqb-true, eq-eqb, and_from}
 use Rattle.std.proofs.lemmas.Bool.Decides.{nat_tests}
 use Rattle.std.specs.Prelude.{Result}
 use Rattle.kn_logic.specs.Constraints.{Bounded}
@@ -17,7 +17,7 @@ use Rattle.kn_format.specs.FirstFaults.{HasHeader, AreConstraints, CanGoOn, HasG
 use Rattle.kn_format.proofs.Steps.{reading}
 use Rattle.kn_format.proofs.Spelled.{is_read}
 use Rattle.kn_format.proofs.Back.{is_ok, first_step, constraints_are_spelled}
-use Rattle.kn_format.proofs.Whole.{after_both, header_is_read, header_was_spelled, tail_is_percent, and_true, at_between, both_hold, percent_is_tail}
+use Rattle.kn_format.proofs.Whole.{after_both, header_is_read, header_was_spelled, tail_is_percent, at_between, both_hold, percent_is_tail}
 use Rattle.kn_format.proofs.First.{bad_word_stays}
 use Rattle.kn_format.proofs.Causes.{IsOfWord, word_cause, header_cause}
 use Rattle.kn_format.proofs.Completed.{HasRoom, Reached, words_reach, Completes, can_be_completed}
@@ -76,7 +76,7 @@ ends_here h words line here read tail all =
     let same : w.last ≡ here = is_ok w.last here (sym w.read ∙ read) in
     let place : is_between w.last.place ≡ true = ap is_between w.place in
     let full : is_full w.last ≡ true = eq-eqb (length w.last.formula.constraints) w.last.count (w.all ∙ sym w.count) in
-    ap (λ (r : Reading). ends r line) (sym same) ∙ and_true (is_done w.last) (is_percent line) (and_true (is_between w.last.place) (is_full w.last) place full) (tail_is_percent line tail)
+    ap (λ (r : Reading). ends r line) (sym same) ∙ and_from (is_done w.last) (is_percent line) (and_from (is_between w.last.place) (is_full w.last) place full) (tail_is_percent line tail)
 
 no_tail : (h : Header) (before : List (List ℕ)) (front : List (List ℕ)) (line : List (List ℕ)) (here : Reading) → after_words (start h) (before ++ front) ≡ Ok here
     → (front ≡ [] → ends here line ≡ false) → front ≡ [] → BeginsTail line → AreConstraints h h.count before → ⊥

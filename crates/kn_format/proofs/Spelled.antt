@@ -4,6 +4,7 @@ use Rattle.std.proofs.lemmas.List.{append-nil}
 use Rattle.std.proofs.lemmas.Bool.Decides.{nat_tests}
 use Rattle.std.specs.Prelude.{Result, IsSome, IfSome, option_to_list}
 use Rattle.std.specs.List.{AllByRecursion}
+use Rattle.std.proofs.lemmas.Bool.{or_from}
 use Rattle.kn_logic.specs.Literals.{Literal, IsKnown, AreKnown, AreDifferent, names}
 use Rattle.kn_logic.specs.Constraints.{Bounded, clause, klause, guarded_klause, named, Fits}
 use Rattle.kn_text.specs.Lists.{LiteralsThen}
@@ -13,7 +14,7 @@ use Rattle.kn_format.specs.declared.place.Place.{Place}
 use Rattle.kn_format.specs.declared.place.Place.TheVariants.{Between, Guard, Bound, Clause, Klause}
 use Rattle.kn_format.specs.Grammar.{BoundThen, GuardThen, MarkedThen, ConstraintThen, SpellConstraints}
 use Rattle.kn_format.specs.Faults.{Reading, nothing, with_literal, with_bound, after, after_words}
-use Rattle.kn_format.proofs.Begun.{names_append, or_left, or_right, or_false}
+use Rattle.kn_format.proofs.Begun.{names_append, or_left, or_right}
 use Rattle.kn_format.proofs.Steps.{reading, step, between_literal, between_end, between_k, between_q, guard_literal, bound_number, clause_literal, clause_end, klause_literal, klause_end}
 
 abbrev pub Then : Format → List Bounded → List (List ℕ) → Type 0
@@ -96,7 +97,7 @@ apart_at [] ys l different = refl
 apart_at (x ∷ xs) ys l different =
     let here : (l.variable == x.variable) ≡ false =
     or_left _ _ (or_right (names xs x.variable) _ (sym (names_append xs (l ∷ ys) x.variable) ∙ different.0)) in
-    or_false (x.variable == l.variable) (names xs l.variable) (test_back l x here) (apart_at xs ys l different.1)
+    or_from (x.variable == l.variable) (names xs l.variable) (test_back l x here) (apart_at xs ys l different.1)
 
 pub joined_literal : (begun : Bounded) (l : Literal) (lits : List Literal) (c : Bounded) → c ≡ joined begun (l ∷ lits) → c ≡ joined (with_literal begun l) lits
 joined_literal begun l lits c e = e ∙ ap (λ ls. record begun { lits = ls }) (sym (append_assoc begun.lits (l ∷ []) lits))

@@ -1,6 +1,6 @@
 -- A text is read as a formula exactly where it spells it.
 use Rattle.std.proofs.Common.{◌≡◌, ℕ, ◌≤◌, ◌==◌, nat_lt, Bool, true, false, ◌&&◌, if◌then◌else◌, List, [], ◌∷◌, ◌++◌, length, Option, Some, None, Ok, Err, refl, sym, ap, subst, ◌∙◌, arith}
-use Rattle.std.proofs.lemmas.Bool.{ltb-false, le-ltb, eqb-true, eq-eqb}
+use Rattle.std.proofs.lemmas.Bool.{ltb-false, le-ltb, eqb-true, eq-eqb, and_from}
 use Rattle.std.proofs.lemmas.Slice.Eq.{bytes_eq-Decides}
 use Rattle.std.specs.Prelude.{Result, codes, IfOk}
 use Rattle.std.specs.Str.{bytes_eq}
@@ -181,14 +181,11 @@ at_between Bound e = absurd cc
 at_between Clause e = absurd cc
 at_between Klause e = absurd cc
 
-pub and_true : (a b : Bool) → a ≡ true → b ≡ true → (a && b) ≡ true
-and_true a b e f = rw (e, f) refl
-
 end_was_read : (last : ℕ) (r : Reading) (f : Problem) → at_end last r ≡ Ok f → WasRead r [] f
 end_was_read last r f e =
     let b = when (is_between r.place) (refusal last unended) (if is_full r then Ok r.formula else Err (refusal last missing_constraint)) f e in
     let d = when (is_full r) (refusal last missing_constraint) (Ok r.formula) f b.1 in
-    record { body = []; tail = []; last = r; parts = refl; words = refl; done = and_true (is_between r.place) (is_full r) b.0 d.0; formula = cc; ending = tt }
+    record { body = []; tail = []; last = r; parts = refl; words = refl; done = and_from (is_between r.place) (is_full r) b.0 d.0; formula = cc; ending = tt }
 
 line_was_read : (last number : ℕ) (r : Reading) (line : Line) (lines : List Line) (f : Problem) (x : Result Reading ℕ) → after_words r line.words ≡ x
     → go_on number x (λ next. after_lines last next lines) ≡ Ok f → ((next : Reading) → after_lines last next lines ≡ Ok f → WasRead next lines f) → WasRead r (line ∷ lines) f

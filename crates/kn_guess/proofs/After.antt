@@ -3,9 +3,10 @@
 use Rattle.std.proofs.Common.{◌≡◌, ℕ, ◌+◌, ◌-◌, ◌≤◌, ◌==◌, Bool, true, false, not, ◌&&◌, ◌||◌, List, [], ◌∷◌, ◌++◌, length, map, filter, set, get_or, Option, Some, None, refl, sym, ap, ap₂, subst, ◌∙◌, inl, inr, arith, true≢false}
 use Rattle.std.specs.Prelude.{◌⊎◌, option_to_list, IfSome}
 use Rattle.std.specs.List.{list_any, AllByRecursion}
-use Rattle.std.proofs.lemmas.Bool.{or_left, or_right, or_cases, or_parts, and_parts, eqb-true, eqb-false, ne_eqb, cases_lt}
+use Rattle.std.proofs.lemmas.Bool.{or_left, or_right, or_cases, or_parts, and_parts, eqb-true, eqb-false, ne_eqb, cases_lt, and_from, not-true}
 use Rattle.std.proofs.lemmas.List.{length-set, get_or-set_same, get_or-set_other, get_or_past}
 use Rattle.std.proofs.lemmas.List.Folds.{list_any-append}
+use Rattle.kn_logic.proofs.Public.{All-has}
 use Rattle.kn_logic.specs.Literals.{Literal, has, names, IsKnown, AreKnown}
 use Rattle.kn_logic.specs.Constraints.{Bounded, is_clause, klause, named, Fits}
 use Rattle.kn_logic.specs.Groups.{Gathered, is_among, is_binary, is_pair}
@@ -14,11 +15,11 @@ use Rattle.kn_store.proofs.Public.{all-one, from-map, to-map}
 use Rattle.kn_guess.specs.Guesses.{in_klause, in_binary, share, stands, is_seed, IsClosedFrom, IsLeastFrom, touches, IsSeedGuess}
 use Rattle.kn_guess.specs.Flags.{lowered, cleared}
 use Rattle.kn_guess.specs.Tables.{SeedTable, in_some, IsNear, IsSeedTable, replaced}
-use Rattle.kn_guess.proofs.Elements.{and-both, not-true, any-with, each-any, any-map, any-filter}
+use Rattle.kn_guess.proofs.Elements.{any-with, each-any, any-map, any-filter}
 use Rattle.kn_guess.proofs.Lives.{clause-named}
 use Rattle.kn_guess.proofs.Bordered.{the-literal, touches-from, touched}
 use Rattle.kn_guess.proofs.Taken.{taken-same}
-use Rattle.kn_guess.proofs.Joined.{own-literal, at-literal, has-name}
+use Rattle.kn_guess.proofs.Joined.{own-literal, has-name}
 use Rattle.kn_guess.proofs.Apart.{names-among}
 
 -- tests that agree on all elements
@@ -59,10 +60,10 @@ pub members-alone : (cs : List Bounded) (seed : ℕ) (set : List ℕ) → IsLeas
 members-alone cs seed set least alone x i =
     let rest = filter (λ v. not (in_klause cs v)) set in
     let closed : IsClosedFrom cs seed rest = record {
-      seed_in = among-but (λ v. not (in_klause cs v)) set seed ∙ and-both (is_among set seed) (not (in_klause cs seed)) least.0.seed_in (ap not alone);
+      seed_in = among-but (λ v. not (in_klause cs v)) set seed ∙ and_from (is_among set seed) (not (in_klause cs seed)) least.0.seed_in (ap not alone);
       neighbours = λ y z j low none near.
           among-but (λ v. not (in_klause cs v)) set z
-          ∙ and-both (is_among set z) (not (in_klause cs z)) (least.0.neighbours y z (and_parts (is_among set y) (not (in_klause cs y)) (sym (among-but (λ v. not (in_klause cs v)) set y) ∙ j)).0 low none near) (ap not none);
+          ∙ and_from (is_among set z) (not (in_klause cs z)) (least.0.neighbours y z (and_parts (is_among set y) (not (in_klause cs y)) (sym (among-but (λ v. not (in_klause cs v)) set y) ∙ j)).0 low none near) (ap not none);
     } in
     not-true (in_klause cs x) (and_parts (is_among set x) (not (in_klause cs x)) (sym (among-but (λ v. not (in_klause cs v)) set x) ∙ least.1 rest closed x i)).1
 
@@ -98,7 +99,7 @@ taking-is s seed g ids h = record {
     clause-at c some t false e =
         let q = touched g.aux c t in
         let alone = members-alone cs seed g.aux h.least (seed-alone cs seed h.starts) q.0 q.1 in
-        absurd (true≢false (sym (some (λ d. not (is_clause d) && names (named d) q.0) (and-both (not (is_clause c)) (names (named c) q.0) (ap not e) q.2)) ∙ alone))
+        absurd (true≢false (sym (some (λ d. not (is_clause d) && names (named d) q.0) (and_from (not (is_clause c)) (names (named c) q.0) (ap not e) q.2)) ∙ alone))
 
     outside-at : (x : ℕ) → is_among g.aux x ≡ false → names g.border x ≡ false → (c : Bounded) → ((f : Bounded → Bool) → f c ≡ true → list_any f cs ≡ true) → touches g.aux c ≡ true → (t : Bool) → names (named c) x ≡ t → names (named c) x ≡ false
     outside-at x off none c some t false e = e
@@ -106,8 +107,8 @@ taking-is s seed g ids h = record {
         let q = literal-of (named c) x e in
         let there : stands g.taken q.0 ≡ true =
         ap (λ z. stands z q.0) (h.taken ∙ taken-same (touches g.aux) s.live) ∙ any-filter (λ d. has (named d) q.0) (touches g.aux) cs
-        ∙ some (λ d. has (named d) q.0 && touches g.aux d) (and-both (has (named c) q.0) (touches g.aux c) q.2 t) in
-        let in-border = h.border.1 q.0 ∙ and-both (stands g.taken q.0) (not (is_among g.aux q.0.variable)) there (ap not (ap (is_among g.aux) q.1 ∙ off)) in
+        ∙ some (λ d. has (named d) q.0 && touches g.aux d) (and_from (has (named c) q.0) (touches g.aux c) q.2 t) in
+        let in-border = h.border.1 q.0 ∙ and_from (stands g.taken q.0) (not (is_among g.aux q.0.variable)) there (ap not (ap (is_among g.aux) q.1 ∙ off)) in
         absurd (true≢false (sym (has-name g.border q.0 in-border) ∙ ap (names g.border) q.1 ∙ none))
 
     apart-at : (x : ℕ) → is_among g.aux x ≡ true → (t : Bool) → names g.border x ≡ t → names g.border x ≡ false
@@ -297,7 +298,7 @@ border-counted s seed g ids stored h = to-map (λ l. l.variable) (λ v. 1 ≤ v)
         let q = any-with (Fits s.vars) (λ c. has (named c) l && touches g.aux c) (constraints_of s.live) stored.formula
         (sym (ap (λ z. stands z l) (h.taken ∙ taken-same (touches g.aux) s.live) ∙ any-filter (λ d. has (named d) l) (touches g.aux) (constraints_of s.live)) ∙ there) in
         let both = and_parts (has (named q.0) l) (touches g.aux q.0) q.1 in
-        (at-literal (IsKnown s.vars) (named q.0) l (known-named s.vars q.0.guard q.0.lits q.2.within.guard q.2.within.lits) both.0).0
+        (All-has (IsKnown s.vars) (named q.0) l (known-named s.vars q.0.guard q.0.lits q.2.within.guard q.2.within.lits) both.0).0
 
 -- neighbours of what is left are as before
 pub near-after : (s : Stored) (g : Gathered) (bound from : ℕ) (entries members : List (List ℕ)) → IsTaking s g → 2 ≤ bound → IsNear s from entries members → IsNear (after s g bound) from entries members

@@ -3,18 +3,18 @@ use Rattle.std.proofs.Common.{◌≡◌, ℕ, ◌≤◌, ◌<◌, ◌==◌, Bool
 use Rattle.std.specs.Prelude.{◌⊎◌, nat_eq, IfSome}
 use Rattle.std.specs.List.{list_any, AllByRecursion}
 use Rattle.std.specs.List.Sorted.{IsStrictlyIncreasing}
-use Rattle.std.proofs.lemmas.Bool.{or_left, or_right, or_cases, and_parts, eqb-true, cond-true}
+use Rattle.std.proofs.lemmas.Bool.{or_left, or_right, or_cases, and_parts, eqb-true, cond-true, and_from, not-true, not_from_false}
 use Rattle.kn_logic.specs.Literals.{Literal, names, has, is_same, IsKnown}
 use Rattle.kn_logic.specs.Constraints.{Bounded, named}
 use Rattle.kn_logic.specs.Groups.{is_among}
-use Rattle.kn_logic.proofs.Public.{same_literal, same-refl}
+use Rattle.kn_logic.proofs.Public.{same_literal, same-refl, same_sign}
 use Rattle.kn_store.specs.Stores.{Numbered, Stored, IsStored, constraints_of, naming}
 use Rattle.kn_store.proofs.Public.{all-one, all-two, IsOwn, Rises, rises}
 use Rattle.kn_guess.specs.Guesses.{in_klause, touches, stands, is_border, IsBorder}
 use Rattle.kn_guess.specs.Refusals.{AreApart, at_border, is_two_sided, AreBorderVariables, IsTooWide, IsTwoSided}
 use Rattle.kn_guess.specs.Gathering.{outside_key, with_members}
 use Rattle.kn_guess.specs.Sides.{first_in_both, sided}
-use Rattle.kn_guess.proofs.Elements.{bool-same, and-both, not-true, false-not, any-with, each-any, any-map, any-filter, all-unfilter, all-among, own-among, among-append, any-among}
+use Rattle.kn_guess.proofs.Elements.{bool-same, any-with, each-any, any-map, any-filter, all-unfilter, all-among, own-among, among-append, any-among}
 use Rattle.kn_guess.proofs.Lives.{IsLive, all-live, all-naming, clause-named, is-plain, own-names}
 use Rattle.kn_guess.proofs.Gathers.{AllKeys, HasKeys, IsIn, all-members, missed-members, apart-members}
 
@@ -34,10 +34,6 @@ sign-one : (p q : Bool) → cond p q (not q) ≡ true → p ≡ q
 sign-one true q e = sym e
 sign-one false true e = absurd (true≢false (sym e))
 sign-one false false e = refl
-
-sign-self : (p : Bool) → cond p p (not p) ≡ true
-sign-self true = refl
-sign-self false = refl
 
 pub own-has : (lits : List Literal) → AllByRecursion (λ l. has lits l ≡ true) lits
 own-has lits = all-one (λ l. (f : Literal → Bool) → f l ≡ true → list_any f lits ≡ true) (λ l. has lits l ≡ true) (λ l h. h (is_same l) (same-refl l)) lits (each-any lits)
@@ -62,9 +58,9 @@ key-sound s set aux positive x p l side in' live name stand = at (cond l.positiv
         let q = and_parts (cond l.positive positive (not positive)) (not (is_among set l.variable)) e in
         let here : stands (taken_by s aux) l ≡ true =
         any-filter (λ c. has (named c) l) (touches aux) (constraints_of s.live)
-        ∙ live.some (λ c. has (named c) l && touches aux c) (and-both (has (named p.constraint) l) (touches aux p.constraint) stand (touches-from aux p.constraint x in' name)) in
+        ∙ live.some (λ c. has (named c) l && touches aux c) (and_from (has (named p.constraint) l) (touches aux p.constraint) stand (touches-from aux p.constraint x in' name)) in
         ap (λ b. is_border (taken_by s aux) aux (the-literal l.variable b)) (sym (sign-one l.positive positive q.0))
-        ∙ and-both (stands (taken_by s aux) l) (not (is_among aux l.variable)) here (ap not (sym (side.same l.variable)) ∙ q.1)
+        ∙ and_from (stands (taken_by s aux) l) (not (is_among aux l.variable)) here (ap not (sym (side.same l.variable)) ∙ q.1)
 
 pub side-sound : (s : Stored) (set aux : List ℕ) (positive : Bool) → IsSide s set aux → AllByRecursion (λ v. is_border (taken_by s aux) aux (the-literal v positive) ≡ true) (with_members 128 (outside_key set positive) s.live [] aux)
 side-sound s set aux positive side = all-members (λ v. is_border (taken_by s aux) aux (the-literal v positive) ≡ true) 128 (outside_key set positive) s.live [] aux tt
@@ -88,7 +84,7 @@ key-full : (set end : List ℕ) (positive : Bool) (l m : Literal) → is_same l 
 key-full set end positive l m same sign out found =
     let e = same_literal l m same in
     let test : (cond l.positive positive (not positive) && not (is_among set l.variable)) ≡ true =
-    and-both (cond l.positive positive (not positive)) (not (is_among set l.variable)) (ap (λ b. cond b positive (not positive)) sign ∙ sign-self positive) (false-not (is_among set l.variable) out) in
+    and_from (cond l.positive positive (not positive)) (not (is_among set l.variable)) (ap (λ b. cond b positive (not positive)) sign ∙ same_sign positive) (not_from_false (is_among set l.variable) out) in
     subst (λ o. IfSome o (IsIn end)) (cond-true (cond l.positive positive (not positive) && not (is_among set l.variable)) (Some l.variable) None test) (subst (λ z. IfSome (outside_key set positive z) (IsIn end)) (sym e) found)
 
 pub side-full : (s : Stored) (set aux : List ℕ) (positive : Bool) → IsSide s set aux → length (with_members 128 (outside_key set positive) s.live [] aux) ≤ 128

@@ -2,7 +2,7 @@
 use Rattle.std.proofs.Common.{◌≡◌, ℕ, ◌+◌, ◌-◌, ◌≤◌, ◌<◌, ◌==◌, Bool, true, false, ◌&&◌, ◌||◌, List, [], ◌∷◌, ◌++◌, length, take, set, get_or, Option, Some, refl, sym, ap, ap₂, subst, ◌∙◌, inl, inr, arith, true≢false}
 use Rattle.std.specs.Prelude.{◌⊎◌}
 use Rattle.std.specs.List.{list_any, AllByRecursion}
-use Rattle.std.proofs.lemmas.Bool.{or_cases, and_parts, eqb-true, eqb-false, eq-eqb, cases_lt}
+use Rattle.std.proofs.lemmas.Bool.{or_cases, and_parts, eqb-true, eqb-false, eq-eqb, cases_lt, and_from}
 use Rattle.std.proofs.lemmas.List.{length-set, get_or-set_same, get_or-set_other, get_or_past, get_or_default, take_more}
 use Rattle.kn_logic.specs.Literals.{names}
 use Rattle.kn_logic.specs.Constraints.{Bounded, named, Fits}
@@ -12,7 +12,7 @@ use Rattle.kn_store.proofs.Public.{all-one}
 use Rattle.kn_guess.specs.Guesses.{share}
 use Rattle.kn_guess.specs.Walks.{kept, is_near}
 use Rattle.kn_guess.specs.Tables.{in_some, IsNear}
-use Rattle.kn_guess.proofs.Elements.{and-both, any-with, each-any, any-map, among-append}
+use Rattle.kn_guess.proofs.Elements.{any-with, each-any, any-map, among-append}
 use Rattle.kn_guess.proofs.Lives.{IsLive, all-live, names-known}
 use Rattle.kn_guess.proofs.Taken.{among-chosen}
 use Rattle.kn_guess.proofs.After.{known-named}
@@ -143,7 +143,7 @@ near-first s from entries members stored long ids placed names-are known = recor
         let p = id-of s x q.0 stored q.2 in
         let r = id-of s z q.0 stored (sym (names-are q.0 z k.0 k.1) ∙ q.1) in
         let same = same-some p.0.constraint r.0.constraint (constraint_at s.live q.0) (ap (constraint_at s.live) (sym p.1) ∙ p.3.own) (ap (constraint_at s.live) (sym r.1) ∙ r.3.own) in
-        p.3.some (λ c. names (named c) x && names (named c) z) (and-both (names (named p.0.constraint) x) (names (named p.0.constraint) z) p.2 (ap (λ c. names (named c) z) same ∙ r.2))
+        p.3.some (λ c. names (named c) x && names (named c) z) (and_from (names (named p.0.constraint) x) (names (named p.0.constraint) z) p.2 (ap (λ c. names (named c) z) same ∙ r.2))
 
     complete : (x z : ℕ) → share (constraints_of s.live) x z ≡ true → is_near members (kept entries (x - 1)) z ≡ true
     complete x z e =
@@ -152,5 +152,5 @@ near-first s from entries members stored long ids placed names-are known = recor
         (sym (any-map (λ p. p.constraint) (λ c. names (named c) x && names (named c) z) s.live) ∙ e) in
         let both = and_parts (names (named q.0.constraint) x) (names (named q.0.constraint) z) q.1 in
         let id = q.0.id in
-        let there : (y : ℕ) → names (named q.0.constraint) y ≡ true → is_among (ids_of (naming y s.live)) q.0.id ≡ true = λ y h. among-chosen s (λ c. names (named c) y) id ∙ q.2 (λ p. (p.id == id) && names (named p.constraint) y) (and-both (id == id) (names (named q.0.constraint) y) (eq-eqb id id refl) h) in
+        let there : (y : ℕ) → names (named q.0.constraint) y ≡ true → is_among (ids_of (naming y s.live)) q.0.id ≡ true = λ y h. among-chosen s (λ c. names (named c) y) id ∙ q.2 (λ p. (p.id == id) && names (named p.constraint) y) (and_from (id == id) (names (named q.0.constraint) y) (eq-eqb id id refl) h) in
         ap (λ ks. is_near members ks z) (ids x kn.0.0 kn.0.1) ∙ near-of members (ids_of (naming x s.live)) id z (there x both.0) (names-are id z kn.1.0 kn.1.1 ∙ there z both.1)

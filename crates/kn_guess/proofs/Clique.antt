@@ -3,19 +3,19 @@ use Rattle.std.proofs.Common.{◌≡◌, ℕ, ◌≤◌, ◌<◌, ◌==◌, Bool
 use Rattle.std.specs.Prelude.{◌⊎◌}
 use Rattle.std.specs.List.{list_any, list_all, AllByRecursion}
 use Rattle.std.specs.List.Sorted.{IsStrictlyIncreasing}
-use Rattle.std.proofs.lemmas.Bool.{or_left, or_right, or_parts, or_cases, and_parts, eqb-false, ne_eqb}
+use Rattle.std.proofs.lemmas.Bool.{or_left, or_right, or_parts, or_cases, and_parts, eqb-false, ne_eqb, and_from, not-true}
 use Rattle.std.proofs.lemmas.List.{length-map}
 use Rattle.kn_logic.specs.Literals.{Literal, is_same, has, names, AreDifferent, IsKnown, AreKnown}
 use Rattle.kn_logic.specs.Constraints.{Bounded, is_clause, Fits}
 use Rattle.kn_logic.specs.Groups.{Gathered, is_among, is_pair, is_binary, is_pair_of, has_pair, is_covered, IsGroup, IsPairGroup}
-use Rattle.kn_logic.proofs.Public.{same_literal, same-refl, has-push}
+use Rattle.kn_logic.proofs.Public.{same_literal, same-refl, has-push, All-push, All-has}
 use Rattle.kn_store.specs.Stores.{Numbered, Stored, IsStored, constraints_of, constraint_at, chosen}
 use Rattle.kn_store.proofs.Public.{all-one, all-pass, to-map, Rises, rises}
 use Rattle.kn_guess.specs.Guesses.{joins, joined, candidates, pair_group, IsPairGuess, IsNoPairGuess}
 use Rattle.kn_guess.specs.Pairing.{IsCoverOf}
 use Rattle.kn_guess.proofs.Apart.{apart-few, rising-apart, names-among}
-use Rattle.kn_guess.proofs.Elements.{and-both, not-true, any-with, each-any, any-map, any-filter}
-use Rattle.kn_guess.proofs.Joined.{own-literal, at-literal, all-end, candidates-known, has-name}
+use Rattle.kn_guess.proofs.Elements.{any-with, each-any, any-map, any-filter}
+use Rattle.kn_guess.proofs.Joined.{own-literal, candidates-known, has-name}
 use Rattle.kn_guess.proofs.Entered.{either, no-self, found-all}
 
 abbrev pub Differ : Literal → Literal → Type 0
@@ -94,7 +94,7 @@ clique-more cs group l clique e a b i j d = at (has-last-or group l a i) (has-la
     paired x i =
         let p = and_parts (not (names group l.variable)) (nat_lt (length group) 256 && list_all (has_pair cs l) group) e in
         let q = and_parts (nat_lt (length group) 256) (list_all (has_pair cs l) group) p.1 in
-        at-literal (λ m. has_pair cs l m ≡ true) group x (all-from (has_pair cs l) group q.1) i
+        All-has (λ m. has_pair cs l m ≡ true) group x (all-from (has_pair cs l) group q.1) i
 
     at : (has group a ≡ true) ⊎ (a ≡ l) → (has group b ≡ true) ⊎ (b ≡ l) → has_pair cs a b ≡ true
     at (inl s) (inl r) = clique a b s r d
@@ -113,7 +113,7 @@ keep-joined P cs step group (l ∷ ls) h = at (joins cs group l) refl (λ e. kee
 
 pub all-joined : (P : Literal → Type 0) (cs : List Bounded) (group ls : List Literal) → AllByRecursion P group → AllByRecursion P ls → AllByRecursion P (joined cs group ls)
 all-joined P cs group [] a b = a
-all-joined P cs group (l ∷ ls) a b = at (joins cs group l) (all-joined P cs (group ++ l ∷ []) ls (all-end P group l a b.0) b.1) (all-joined P cs group ls a b.1)
+all-joined P cs group (l ∷ ls) a b = at (joins cs group l) (all-joined P cs (group ++ l ∷ []) ls (All-push P group l a b.0) b.1) (all-joined P cs group ls a b.1)
   where
     at : (t : Bool) → AllByRecursion P (joined cs (group ++ l ∷ []) ls) → AllByRecursion P (joined cs group ls) → AllByRecursion P (joined cs (cond t (group ++ l ∷ []) group) ls)
     at true on off = on
@@ -165,7 +165,7 @@ any-chosen : (p test : Bounded → Bool) (ps : List Numbered) → ((c : Bounded)
 any-chosen p test ps f e =
     any-map (λ q. q.constraint) p (chosen test ps) ∙ any-filter (λ q. p q.constraint) (λ q. test q.constraint) ps
     ∙ (let q = any-with (λ q. (g : Numbered → Bool) → g q ≡ true → list_any g ps ≡ true) (λ q. p q.constraint) ps (each-any ps) (sym (any-map (λ q. q.constraint) p ps) ∙ e) in
-    q.2 (λ r. p r.constraint && test r.constraint) (and-both (p q.0.constraint) (test q.0.constraint) q.1 (f q.0.constraint q.1)))
+    q.2 (λ r. p r.constraint && test r.constraint) (and_from (p q.0.constraint) (test q.0.constraint) q.1 (f q.0.constraint q.1)))
 
 pub taken-covered : (border : List Literal) (ps : List Numbered) → AllByRecursion (λ c. is_covered border c ≡ true) (constraints_of (chosen (is_covered border) ps))
 taken-covered border ps = to-map (λ q. q.constraint) (λ c. is_covered border c ≡ true) (chosen (is_covered border) ps) (all-pass (λ q. is_covered border q.constraint) ps)
@@ -197,7 +197,7 @@ group-of-cover g ps aux up is = cover-group g aux up (subst (AllByRecursion (λ 
 pub pair-clique : (s : Stored) (start : ℕ) (first : Bounded) → constraint_at s.live start ≡ Some first → is_binary first ≡ true → IsClique (constraints_of s.live) (pair_group s first)
 pair-clique s start first there binary = keep-joined (IsClique (constraints_of s.live)) (constraints_of s.live) (λ group l h e. clique-more (constraints_of s.live) group l h e) first.lits (candidates s.vars)
     (λ a b i j d. found-all (λ c. (p : Bounded → Bool) → p c ≡ true → list_any p (constraints_of s.live) ≡ true) s.live start first there (each-any (constraints_of s.live)) (is_pair_of a b)
-    (and-both (is_binary first) (has first.lits a && has first.lits b) binary (and-both (has first.lits a) (has first.lits b) i j)))
+    (and_from (is_binary first) (has first.lits a && has first.lits b) binary (and_from (has first.lits a) (has first.lits b) i j)))
 
 pub pair-group-is : (s : Stored) (start : ℕ) (g : Gathered) (ids : List ℕ) → IsPairGuess s start g ids → IsPairGroup g
 pair-group-is s start g ids h =
@@ -211,7 +211,7 @@ pair-group-is s start g ids h =
       each = λ a b i j n.
           let d = apart different a b i j n in
           ap (λ z. has_pair z a b) h.taken
-          ∙ any-chosen (is_pair_of a b) (is_covered g.border) s.live (λ c e. covered-is g.border c a b d e ∙ and-both (has g.border a) (has g.border b) i j)
+          ∙ any-chosen (is_pair_of a b) (is_covered g.border) s.live (λ c e. covered-is g.border c a b d e ∙ and_from (has g.border a) (has g.border b) i j)
           (pair-clique s start h.first h.there h.binary a b (sym (h.members a) ∙ i) (sym (h.members b) ∙ j) d);
     }
   where

@@ -3,24 +3,24 @@ use Rattle.std.proofs.Common.{◌≡◌, ℕ, ◌≤◌, ◌==◌, Bool, true, f
 use Rattle.std.specs.Prelude.{nat_eq}
 use Rattle.std.specs.List.{list_any, list_all, AllByRecursion}
 use Rattle.std.specs.List.Sorted.{IsStrictlyIncreasing}
-use Rattle.std.proofs.lemmas.Bool.{or_left, or_right, or_cases, and_parts, eqb-true, eq-eqb, ne_eqb}
+use Rattle.std.proofs.lemmas.Bool.{or_left, or_right, or_cases, and_parts, eqb-true, eq-eqb, ne_eqb, and_from}
 use Rattle.std.proofs.lemmas.List.{length-map, append-nil, drop_all}
 use Rattle.indexmap.specs.IndexSet.{insert_key}
 use Rattle.kn_logic.specs.Literals.{Literal, is_same, has, names, AreDifferent}
 use Rattle.kn_logic.specs.Constraints.{is_clause, named}
 use Rattle.kn_logic.specs.Groups.{is_among, is_pair, is_binary, is_covered}
-use Rattle.kn_logic.proofs.Public.{same_literal, same-refl}
+use Rattle.kn_logic.proofs.Public.{same_literal, same-refl, All-has}
 use Rattle.kn_store.specs.Stores.{Numbered, Stored, IsStored, ids_of, naming, chosen}
 use Rattle.kn_store.proofs.Public.{all-one, all-filter, IsOwn, own, rises}
 use Rattle.kn_guess.specs.Seen.{passes}
 use Rattle.kn_guess.specs.Sides.{sided}
 use Rattle.kn_guess.specs.Pairing.{positives, covered_among, covered_ids}
-use Rattle.kn_guess.proofs.Elements.{bool-same, and-both, any-with, each-any, any-map, any-filter, any-alike, all-among, own-among, any-among, among-append}
+use Rattle.kn_guess.proofs.Elements.{bool-same, any-with, each-any, any-map, any-filter, any-alike, all-among, own-among, any-among, among-append}
 use Rattle.kn_guess.proofs.Rising.{numbers-one, rises-ids}
 use Rattle.kn_guess.proofs.Lives.{clause-named}
 use Rattle.kn_guess.proofs.Bordered.{the-literal, map-sided}
 use Rattle.kn_guess.proofs.Taken.{among-chosen}
-use Rattle.kn_guess.proofs.Joined.{own-literal, at-literal, has-name}
+use Rattle.kn_guess.proofs.Joined.{own-literal, has-name}
 use Rattle.kn_guess.proofs.Clique.{Differ, pair-lits, one-literal}
 use Rattle.kn_guess.proofs.Apart.{apart-few, names-among, variables-apart}
 
@@ -167,7 +167,7 @@ ids-covered s border skipped id stored = among-covered s border skipped border i
         let p = any-with (λ p. (f : Numbered → Bool) → f p ≡ true → list_any f s.live ≡ true) (λ p. (p.id == id) && (is_covered border p.constraint && names (named p.constraint) q.0.variable)) s.live (each-any s.live) there in
         let a = and_parts (p.0.id == id) (is_covered border p.0.constraint && names (named p.0.constraint) q.0.variable) p.1 in
         let b = and_parts (is_covered border p.0.constraint) (names (named p.0.constraint) q.0.variable) a.1 in
-        among-chosen s (is_covered border) id ∙ p.2 (λ r. (r.id == id) && is_covered border r.constraint) (and-both (p.0.id == id) (is_covered border p.0.constraint) a.0 b.0)
+        among-chosen s (is_covered border) id ∙ p.2 (λ r. (r.id == id) && is_covered border r.constraint) (and_from (p.0.id == id) (is_covered border p.0.constraint) a.0 b.0)
 
     found : (p : Numbered) → ((f : Numbered → Bool) → f p ≡ true → list_any f s.live ≡ true) → (p.id == id) ≡ true → is_covered border p.constraint ≡ true → (l : Literal) → has border l ≡ true → has p.constraint.lits l ≡ true → (l.variable == skipped) ≡ false
         → list_any (λ l. not (l.variable == skipped) && named-covered s border id l.variable) border ≡ true
@@ -176,11 +176,11 @@ ids-covered s border skipped id stored = among-covered s border skipped border i
         let clause = and_parts (is_clause p.constraint) (is_pair p.constraint.lits) binary.0 in
         let name : names (named p.constraint) l.variable ≡ true = ap (λ z. names z l.variable) (clause-named p.constraint clause.0) ∙ has-name p.constraint.lits l j in
         let there = some (λ r. (r.id == id) && (is_covered border r.constraint && names (named r.constraint) l.variable))
-        (and-both (p.id == id) (is_covered border p.constraint && names (named p.constraint) l.variable) same (and-both (is_covered border p.constraint) (names (named p.constraint) l.variable) cover name)) in
+        (and_from (p.id == id) (is_covered border p.constraint && names (named p.constraint) l.variable) same (and_from (is_covered border p.constraint) (names (named p.constraint) l.variable) cover name)) in
         let q = any-with (λ m. (f : Literal → Bool) → f m ≡ true → list_any f border ≡ true) (is_same l) border (each-any border) i in
         let is = same_literal l q.0 q.1 in
         q.2 (λ l. not (l.variable == skipped) && named-covered s border id l.variable)
-        (subst (λ m. (not (m.variable == skipped) && named-covered s border id m.variable) ≡ true) is (and-both (not (l.variable == skipped)) (named-covered s border id l.variable) (ap not d) there))
+        (subst (λ m. (not (m.variable == skipped) && named-covered s border id m.variable) ≡ true) is (and_from (not (l.variable == skipped)) (named-covered s border id l.variable) (ap not d) there))
 
     back : is_among (ids_of (chosen (is_covered border) s.live)) id ≡ true → list_any (λ l. not (l.variable == skipped) && named-covered s border id l.variable) border ≡ true
     back e =
@@ -208,7 +208,7 @@ ids-of-cover s border skipped all ids stored is up same =
 
 -- what holds of all the literals of a group holds of these
 pub all-members : (P : Literal → Type 0) (group lits : List Literal) → ((l : Literal) → has lits l ≡ has group l) → AllByRecursion P group → AllByRecursion P lits
-all-members P group lits same h = all-one (λ l. has lits l ≡ true) P (λ l i. at-literal P group l h (sym (same l) ∙ i)) lits (own-literal lits)
+all-members P group lits same h = all-one (λ l. has lits l ≡ true) P (λ l i. All-has P group l h (sym (same l) ∙ i)) lits (own-literal lits)
 
 -- a loop over a list at its end
 pub end-variables : (all : List ℕ) (group : List Literal) (k : ℕ) → all ++ map (λ l. l.variable) (drop k group) ≡ map (λ l. l.variable) group → length group ≤ k → all ≡ map (λ l. l.variable) group

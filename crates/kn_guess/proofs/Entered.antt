@@ -3,20 +3,20 @@ use Rattle.std.proofs.Common.{◌≡◌, ℕ, suc, ◌+◌, ◌*◌, ◌-◌, �
 use Rattle.std.specs.Prelude.{◌⊎◌, zero, slice_get, IfSome}
 use Rattle.std.specs.Option.{is_some}
 use Rattle.std.specs.List.{list_any, AllByRecursion}
-use Rattle.std.proofs.lemmas.Bool.{or_left, or_right, or_cases, and_parts, eqb-false, eq-eqb, ne_eqb, cond-true, cond-false}
+use Rattle.std.proofs.lemmas.Bool.{or_left, or_right, or_cases, and_parts, eqb-false, eq-eqb, ne_eqb, cond-true, cond-false, and_from, not-true}
 use Rattle.std.proofs.Math.Bool.{beq}
 use Rattle.std.proofs.lemmas.List.{length-set, get_or-set_same, get_or-set_other, get_or-replicate, length-replicate, append-nil, drop_all, take_all}
 use Rattle.kn_logic.specs.Literals.{Literal, is_same, has, names, IsKnown, AreKnown}
 use Rattle.kn_logic.specs.Constraints.{Bounded, is_clause, named, Fits}
 use Rattle.kn_logic.specs.Groups.{is_pair, is_binary, is_pair_of, has_pair}
-use Rattle.kn_logic.proofs.Public.{same_literal, same-refl, has-push}
+use Rattle.kn_logic.proofs.Public.{same_literal, same-refl, has-push, All-push, All-has, has-filtered}
 use Rattle.kn_store.specs.Stores.{Numbered, Stored, IsStored, constraints_of, ids_of, naming, constraint_at}
 use Rattle.kn_store.proofs.Public.{all-one, all-two, all-filter, from-map, to-map, IsOwn, Rises, increasing}
 use Rattle.kn_guess.specs.Tables.{Paired, PairTable, rank, row, lits_of, ranks, is_partner, is_left, IsPaired, IsPairTable}
 use Rattle.kn_guess.specs.Pairing.{ends, with_entry, other, other_of, entered, found_entered, all_entered}
-use Rattle.kn_guess.proofs.Elements.{bool-same, and-both, not-true, each-any, any-map, any-filter, any-alike}
+use Rattle.kn_guess.proofs.Elements.{bool-same, any-map, any-filter, any-alike}
 use Rattle.kn_guess.proofs.Lives.{IsLive, all-live, clause-named}
-use Rattle.kn_guess.proofs.Joined.{filter-all, at-literal, has-name, all-end, cands, of-variable, cands-more, cands-known, rank-within}
+use Rattle.kn_guess.proofs.Joined.{filter-all, has-name, cands, of-variable, cands-more, cands-known, rank-within}
 
 -- the last entry
 pub ends-at : (l : Literal) (ps : List Paired) (p : Paired) → slice_get ps (length ps - 1) ≡ Some p → ends l ps ≡ is_same p.lit l
@@ -129,7 +129,7 @@ from-other c l m e = at (is_binary c) refl e
     at : (t : Bool) → is_binary c ≡ t → cond t (other l c.lits) None ≡ Some m → (is_pair_of l m c ≡ true) × ((l.variable == m.variable) ≡ false)
     at true b e =
         let q = lits-other c.lits l m (and_parts (is_clause c) (is_pair c.lits) b).1 e in
-        (and-both (is_binary c) (has c.lits l && has c.lits m) b (and-both (has c.lits l) (has c.lits m) q.0 q.1), q.2)
+        (and_from (is_binary c) (has c.lits l && has c.lits m) b (and_from (has c.lits l) (has c.lits m) q.0 q.1), q.2)
     at false b e = absurd cc
 
 -- what it has is known
@@ -140,7 +140,7 @@ other-known s c l known = at (other_of l c) refl
     at None e = tt
     at (Some m) e =
         let p = and_parts (is_binary c) (has c.lits l && has c.lits m) (from-other c l m e).0 in
-        at-literal (IsKnown s.vars) c.lits m known (and_parts (has c.lits l) (has c.lits m) p.1).1
+        All-has (IsKnown s.vars) c.lits m known (and_parts (has c.lits l) (has c.lits m) p.1).1
 
 -- one row after one clause
 row-other : (table : PairTable) (new : List Paired) (o m : Literal) → (o ≡ m → ⊥) → row (set table (rank o) new) m ≡ row table m
@@ -265,10 +265,6 @@ ends-has l [] e = absurd (true≢false (sym e))
 ends-has l (p ∷ []) e = or_left (is_same l p.lit) false (ap (is_same l) (same_literal p.lit l e) ∙ same-refl l)
 ends-has l (p ∷ q ∷ ps) e = or_right (is_same l p.lit) (has (lits_of (q ∷ ps)) l) (ends-has l (q ∷ ps) e)
 
-has-filtered : (P : Literal → Bool) (ls : List Literal) (l : Literal) → has (filter P ls) l ≡ true → has ls l ≡ true
-has-filtered P ls l e = at-literal (λ m. has ls m ≡ true) (filter P ls) l
-    (all-filter (λ m. has ls m ≡ true) P ls (all-one (λ m. (f : Literal → Bool) → f m ≡ true → list_any f ls ≡ true) (λ m. has ls m ≡ true) (λ m h. h (is_same m) (same-refl m)) ls (each-any ls))) e
-
 no-end : (s : Stored) (ls : List Literal) (table : PairTable) (l m : Literal) → IsMade s ls table → IsKnown s.vars m → has ls l ≡ false → ends l (row table m) ≡ false
 no-end s ls table l m made known out = at (ends l (row table m)) refl
   where
@@ -287,7 +283,7 @@ pair-named s l m =
         (λ e.
         let p = and_parts (is_binary c) (has c.lits l && has c.lits m) e in
         let clause = and_parts (is_clause c) (is_pair c.lits) p.0 in
-        and-both (is_pair_of l m c) (names (named c) l.variable) e (ap (λ z. names z l.variable) (clause-named c clause.0) ∙ has-name c.lits l (and_parts (has c.lits l) (has c.lits m) p.1).0))
+        and_from (is_pair_of l m c) (names (named c) l.variable) e (ap (λ z. names z l.variable) (clause-named c clause.0) ∙ has-name c.lits l (and_parts (has c.lits l) (has c.lits m) p.1).0))
 
 filter-end : (P : Literal → Bool) (ls : List Literal) (l : Literal) → filter P (ls ++ l ∷ []) ≡ filter P ls ++ cond (P l) (l ∷ []) []
 filter-end P [] l = refl
@@ -320,13 +316,13 @@ row-more-lits : (s : Stored) (ls : List Literal) (l m : Literal) (p : Numbered) 
 row-more-lits s ls l m p old new h owned pair d there is =
     let cs = constraints_of s.live in
     let entry : Paired = record { lit = l; id = p.id } in
-    let on : is_partner cs m l ≡ true = and-both (not (l.variable == m.variable)) (has_pair cs l m) (ap not d) there in
+    let on : is_partner cs m l ≡ true = and_from (not (l.variable == m.variable)) (has_pair cs l m) (ap not d) there in
     let paired : IsPaired s m entry = record {
       old = owned.1;
       other = d;
       pair = subst (λ o. IfSome o (λ c. is_pair_of l m c ≡ true)) (sym owned.0.own) pair;
     } in (
-      subst (AllByRecursion (λ p. IsPaired s m p × (is_left s.live p ≡ true))) (sym is) (all-end (λ p. IsPaired s m p × (is_left s.live p ≡ true)) old entry h.0 (paired, ap is_some owned.0.own)),
+      subst (AllByRecursion (λ p. IsPaired s m p × (is_left s.live p ≡ true))) (sym is) (All-push (λ p. IsPaired s m p × (is_left s.live p ≡ true)) old entry h.0 (paired, ap is_some owned.0.own)),
       ap lits_of is ∙ lits-end old entry ∙ ap (λ z. z ++ l ∷ []) h.1 ∙ ap (λ t. filter (is_partner cs m) ls ++ cond t (l ∷ []) []) (sym on) ∙ sym (filter-end (is_partner cs m) ls l),
     )
 
@@ -367,7 +363,7 @@ out-next : (k : ℕ) (b : Bool) → has (cands 1 k) (of-variable (k + 1) b) ≡ 
 out-next k b = at (has (cands 1 k) (of-variable (k + 1) b)) refl
   where
     at : (t : Bool) → has (cands 1 k) (of-variable (k + 1) b) ≡ t → has (cands 1 k) (of-variable (k + 1) b) ≡ false
-    at true e = absurd (let known = at-literal (IsKnown k) (cands 1 k) (of-variable (k + 1) b) (cands-known k 1 k (omega arith) (omega arith)) e in let high = known.1 in omega (arith, high))
+    at true e = absurd (let known = All-has (IsKnown k) (cands 1 k) (of-variable (k + 1) b) (cands-known k 1 k (omega arith) (omega arith)) e in let high = known.1 in omega (arith, high))
     at false e = e
 
 pub made-variable : (s : Stored) (k : ℕ) (table on off : PairTable) → IsStored s → IsMade s (cands 1 k) table → k < s.vars

@@ -2,7 +2,7 @@
 use Rattle.std.proofs.Common.{◌≡◌, ℕ, ◌+◌, ◌-◌, ◌≤◌, ◌<◌, ◌==◌, Bool, true, false, not, ◌&&◌, ◌||◌, List, [], ◌∷◌, ◌++◌, length, take, drop, set, get_or, Some, None, nat_lt, refl, sym, ap, subst, ◌∙◌, inl, inr, arith, true≢false}
 use Rattle.std.specs.Prelude.{◌⊎◌, slice_get}
 use Rattle.std.specs.List.{list_any, AllByRecursion}
-use Rattle.std.proofs.lemmas.Bool.{or_left, or_cases, and_parts, eqb-true, eqb-false, eq-eqb, cases_lt, lt-ltb, ltb-true}
+use Rattle.std.proofs.lemmas.Bool.{or_left, or_cases, and_parts, eqb-true, eqb-false, eq-eqb, cases_lt, lt-ltb, ltb-true, and_from, not-true}
 use Rattle.std.proofs.lemmas.Option.{slice_get_within, get_or_from_slice_get, slice_get-get_or}
 use Rattle.std.proofs.lemmas.List.{length-set, get_or-set_same, get_or-set_other, take-append-drop, take_all, take_more, take-append-le}
 use Rattle.kn_logic.specs.Literals.{has, names}
@@ -15,7 +15,7 @@ use Rattle.kn_guess.specs.Refusals.{AreApart, IsTooMany}
 use Rattle.kn_guess.specs.Seen.{IsSeen}
 use Rattle.kn_guess.specs.Walks.{is_later, kept, is_near, AllThin, Grows, HasAll, IsWithin}
 use Rattle.kn_guess.specs.Tables.{in_some, IsNear}
-use Rattle.kn_guess.proofs.Elements.{any-with, each-any, all-among, own-among, among-last, among-end, and-both, not-true}
+use Rattle.kn_guess.proofs.Elements.{any-with, each-any, all-among, own-among, among-last, among-end}
 use Rattle.kn_guess.proofs.Gathers.{among-extends}
 use Rattle.kn_guess.proofs.Bordered.{the-literal}
 use Rattle.kn_guess.proofs.Joined.{has-name}
@@ -58,12 +58,12 @@ near-member s free entries members start x v stored seen near member e =
 
 -- and a neighbour is found
 later-is : (s : Stored) (free : List Bool) (start v : ℕ) → IsSeen s free → (1 ≤ v) × (v ≤ s.vars) → start < v → in_klause (constraints_of s.live) v ≡ false → is_later start free v ≡ true
-later-is s free start v seen known low none = and-both (nat_lt start v) (get_or free (v - 1) false) (lt-ltb start v low) (seen.says v known.0 known.1 ∙ ap not none)
+later-is s free start v seen known low none = and_from (nat_lt start v) (get_or free (v - 1) false) (lt-ltb start v low) (seen.says v known.0 known.1 ∙ ap not none)
 
 near-is : (s : Stored) (free : List Bool) (entries members : List (List ℕ)) (start x z : ℕ) → IsStored s → IsSeen s free → IsNear s start entries members → IsMember s start x → start < z → in_klause (constraints_of s.live) z ≡ false → share (constraints_of s.live) x z ≡ true
     → nearby start free entries members x z ≡ true
 near-is s free entries members start x z stored seen near member low none e =
-    and-both (is_later start free z) (is_near members (kept entries (x - 1)) z) (later-is s free start z seen (share-known s x z stored e).1 low none) (near.complete x z member.known.0 member.alone low none e)
+    and_from (is_later start free z) (is_near members (kept entries (x - 1)) z) (later-is s free start z seen (share-known s x z stored e).1 low none) (near.complete x z member.known.0 member.alone low none e)
 
 member-at : (set : List ℕ) (at x : ℕ) → take (at + 1) set ≡ take at set ++ x ∷ [] → is_among set x ≡ true
 member-at set at x e = among-extends (take (at + 1) set) set x (drop (at + 1) set, sym (take-append-drop (at + 1) set)) (ap (λ w. is_among w x) e ∙ among-last (take at set) x)

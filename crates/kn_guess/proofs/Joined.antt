@@ -4,17 +4,17 @@ use Rattle.std.proofs.Common.{◌≡◌, ℕ, suc, ◌+◌, ◌*◌, ◌≤◌, 
 use Rattle.std.specs.Prelude.{◌⊎◌, zero}
 use Rattle.std.specs.List.{list_any, list_all, flat_map, range_with_len, AllByRecursion}
 use Rattle.std.specs.List.Sorted.{IsStrictlyIncreasing}
-use Rattle.std.proofs.lemmas.Bool.{or_left, or_right, or_cases, and_parts, eqb-true, eqb-false, eq-eqb, ne_eqb, cond-true, cond-false, lt-ltb, ltb-true}
+use Rattle.std.proofs.lemmas.Bool.{or_left, or_right, or_cases, and_parts, eqb-true, eqb-false, eq-eqb, ne_eqb, cond-true, cond-false, lt-ltb, ltb-true, and_from, not-true}
 use Rattle.kn_logic.specs.Literals.{Literal, is_same, has, names, IsKnown, AreKnown}
 use Rattle.kn_logic.specs.Constraints.{Bounded}
 use Rattle.kn_logic.specs.Groups.{is_pair, has_pair}
-use Rattle.kn_logic.proofs.Public.{same_literal, same-refl}
+use Rattle.kn_logic.proofs.Public.{same_literal, same-refl, All-push}
 use Rattle.kn_store.specs.Stores.{Numbered, Stored, constraints_of}
 use Rattle.kn_store.proofs.Public.{all-one, all-two, all-filter, all-pass, from-map, to-map, Rises, rises, increasing}
 use Rattle.kn_guess.specs.Guesses.{joins, joined, candidates}
 use Rattle.kn_guess.specs.Tables.{Paired, PairTable, rank, row, lits_of, ranks, is_partner, is_left, IsPairTable}
 use Rattle.kn_guess.specs.Pairing.{is_common, AreLeft}
-use Rattle.kn_guess.proofs.Elements.{bool-same, and-both, not-true, any-with, each-any, any-map, any-filter}
+use Rattle.kn_guess.proofs.Elements.{bool-same, any-with, each-any, any-map, any-filter}
 
 -- lists and filters
 pub filter-yes : {X : Type 0} (f : X → Bool) (x : X) (xs : List X) → f x ≡ true → filter f (x ∷ xs) ≡ x ∷ filter f xs
@@ -47,9 +47,6 @@ rises-some test (p ∷ ps) h = at (test p) (rises-some test ps h.1)
 pub own-literal : (lits : List Literal) → AllByRecursion (λ l. has lits l ≡ true) lits
 own-literal lits = all-one (λ l. (f : Literal → Bool) → f l ≡ true → list_any f lits ≡ true) (λ l. has lits l ≡ true) (λ l h. h (is_same l) (same-refl l)) lits (each-any lits)
 
-pub at-literal : (P : Literal → Type 0) (lits : List Literal) (l : Literal) → AllByRecursion P lits → has lits l ≡ true → P l
-at-literal P lits l h e = let q = any-with P (is_same l) lits h e in subst P (sym (same_literal l q.0 q.1)) q.2
-
 pub has-name : (lits : List Literal) (l : Literal) → has lits l ≡ true → names lits l.variable ≡ true
 has-name lits l e =
     let q = any-with (λ m. (f : Literal → Bool) → f m ≡ true → list_any f lits ≡ true) (is_same l) lits (each-any lits) e in
@@ -66,10 +63,6 @@ has-end (m ∷ lits) l x e = at (or_cases (is_same x m) (has lits x) e) (λ h. h
 pub has-last : (lits : List Literal) (l : Literal) → has (lits ++ l ∷ []) l ≡ true
 has-last [] l = or_left (is_same l l) false (same-refl l)
 has-last (m ∷ lits) l = or_right (is_same l m) (has (lits ++ l ∷ []) l) (has-last lits l)
-
-pub all-end : {X : Type 0} (P : X → Type 0) (xs : List X) (x : X) → AllByRecursion P xs → P x → AllByRecursion P (xs ++ x ∷ [])
-all-end P [] x h p = (p, tt)
-all-end P (y ∷ xs) x h p = (h.0, all-end P xs x h.1 p)
 
 -- the candidates, from a variable on
 abbrev pub cands : ℕ → ℕ → List Literal
@@ -181,11 +174,11 @@ no-name cs l (m ∷ group) h =
 
 all-pairs : (cs : List Bounded) (l : Literal) (group : List Literal) → AllByRecursion (λ m. is_partner cs m l ≡ true) group → list_all (has_pair cs l) group ≡ true
 all-pairs cs l [] h = refl
-all-pairs cs l (m ∷ group) h = and-both (has_pair cs l m) (list_all (has_pair cs l) group) (partner-parts cs m l h.0).1 (all-pairs cs l group h.1)
+all-pairs cs l (m ∷ group) h = and_from (has_pair cs l m) (list_all (has_pair cs l) group) (partner-parts cs m l h.0).1 (all-pairs cs l group h.1)
 
 pub does-join : (cs : List Bounded) (l : Literal) (group : List Literal) → AllByRecursion (λ m. is_partner cs m l ≡ true) group → length group < 256 → joins cs group l ≡ true
-does-join cs l group h low = and-both (not (names group l.variable)) (nat_lt (length group) 256 && list_all (has_pair cs l) group) (ap not (no-name cs l group h))
-    (and-both (nat_lt (length group) 256) (list_all (has_pair cs l) group) (lt-ltb (length group) 256 low) (all-pairs cs l group h))
+does-join cs l group h low = and_from (not (names group l.variable)) (nat_lt (length group) 256 && list_all (has_pair cs l) group) (ap not (no-name cs l group h))
+    (and_from (nat_lt (length group) 256) (list_all (has_pair cs l) group) (lt-ltb (length group) 256 low) (all-pairs cs l group h))
 
 -- what is met of two rows
 abbrev pub is_there : List Numbered → List Paired → Literal → Bool
@@ -232,7 +225,7 @@ there-is s table m l h known in' =
     back cs e =
         let q = any-with (λ k. (f : Literal → Bool) → f k ≡ true → list_any f (candidates s.vars) ≡ true) (is_same l) (candidates s.vars) (each-any (candidates s.vars)) (candidate-has s.vars l in') in
         let same = same_literal l q.0 q.1 in
-        q.2 (λ k. is_same k l && is_partner cs m k) (and-both (is_same q.0 l) (is_partner cs m q.0) (same-turned q.0 l ∙ q.1) (ap (is_partner cs m) (sym same) ∙ e))
+        q.2 (λ k. is_same k l && is_partner cs m k) (and_from (is_same q.0 l) (is_partner cs m q.0) (same-turned q.0 l ∙ q.1) (ap (is_partner cs m) (sym same) ∙ e))
 
 -- what is left to be tried: partners of all literals that have joined
 pub record IsRest (s : Stored) (first group : List Literal) (rest : List Paired) : Type 0 where
@@ -307,7 +300,7 @@ rest-next s table first group x xs h rest low =
       known = subst (AreKnown s.vars) (sym met) (all-filter (IsKnown s.vars) (is_partner cs x.lit) (lits_of xs) rest.known.1);
       left = common-left s.live (row table x.lit) xs;
       partners = all-two (λ p. is_partner cs x.lit p.lit ≡ true) (λ p. AllByRecursion (λ m. is_partner cs m p.lit ≡ true) group) (λ p. AllByRecursion (λ m. is_partner cs m p.lit ≡ true) (group ++ x.lit ∷ []))
-          (λ p e f. all-end (λ m. is_partner cs m p.lit ≡ true) group x.lit f e) next
+          (λ p e f. All-push (λ m. is_partner cs m p.lit ≡ true) group x.lit f e) next
           (from-map (λ p. p.lit) (λ l. is_partner cs x.lit l ≡ true) next (subst (AllByRecursion (λ l. is_partner cs x.lit l ≡ true)) (sym met) (all-pass (is_partner cs x.lit) (lits_of xs))))
           (all-filter (λ p. AllByRecursion (λ m. is_partner cs m p.lit ≡ true) group) (is_common s.live (row table x.lit)) xs rest.partners.1);
       here = ap (joined cs (group ++ x.lit ∷ [])) met

@@ -3,13 +3,13 @@ use Rattle.std.proofs.Common.{◌≡◌, ℕ, ◌≤◌, ◌==◌, Bool, true, f
 use Rattle.std.specs.Prelude.{option_to_list}
 use Rattle.std.specs.Option.{is_none}
 use Rattle.std.specs.List.{list_any, AllByRecursion}
-use Rattle.std.proofs.lemmas.Bool.{and_parts, eqb-true, eq-eqb}
+use Rattle.std.proofs.lemmas.Bool.{and_parts, eqb-true, eq-eqb, and_from}
 use Rattle.kn_logic.specs.Literals.{Literal, names, IsKnown, AreKnown}
 use Rattle.kn_logic.specs.Constraints.{Bounded, is_clause, named, Fits}
 use Rattle.kn_store.specs.Stores.{Numbered, Stored, IsStored, constraints_of, ids_of, naming, constraint_at}
 use Rattle.kn_store.proofs.Public.{all-one, all-two, from-map, all-filter, all-pass, rises, IsOwn, own}
 use Rattle.kn_guess.specs.Guesses.{in_klause}
-use Rattle.kn_guess.proofs.Elements.{any-with, each-any, and-both}
+use Rattle.kn_guess.proofs.Elements.{any-with, each-any}
 
 pub record IsLive (s : Stored) (p : Numbered) : Type 0 where
   pub own : constraint_at s.live p.id ≡ Some p.constraint
@@ -42,7 +42,7 @@ is-plain s x p live none name = at (is_clause p.constraint) refl
   where
     at : (t : Bool) → is_clause p.constraint ≡ t → is_clause p.constraint ≡ true
     at true e = e
-    at false e = absurd (true≢false (sym (live.some (λ c. not (is_clause c) && names (named c) x) (and-both (not (is_clause p.constraint)) (names (named p.constraint) x) (ap not e) name)) ∙ none))
+    at false e = absurd (true≢false (sym (live.some (λ c. not (is_clause c) && names (named c) x) (and_from (not (is_clause p.constraint)) (names (named p.constraint) x) (ap not e) name)) ∙ none))
 
 -- each literal of a list, with its own variable and itself in the list
 pub own-names : (lits : List Literal) → AllByRecursion (λ l. names lits l.variable ≡ true) lits

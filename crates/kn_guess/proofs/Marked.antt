@@ -2,7 +2,7 @@
 use Rattle.std.proofs.Common.{◌≡◌, ℕ, suc, ◌+◌, ◌-◌, ◌≤◌, ◌<◌, ◌==◌, Bool, true, false, not, cond, ◌&&◌, ◌||◌, List, [], ◌∷◌, ◌++◌, length, map, set, get_or, replicate, Option, Some, None, refl, sym, ap, ap₂, ◌∙◌, inl, inr, arith, true≢false}
 use Rattle.std.specs.Prelude.{zero}
 use Rattle.std.specs.List.{list_any, range_with_len, AllByRecursion}
-use Rattle.std.proofs.lemmas.Bool.{or_left, or_right, and_parts, eqb-true, eqb-false, eq-eqb, cases_lt}
+use Rattle.std.proofs.lemmas.Bool.{or_left, or_right, and_parts, eqb-true, eqb-false, eq-eqb, cases_lt, and_from}
 use Rattle.std.proofs.lemmas.List.{length-set, get_or-set_same, get_or-set_other, get_or-replicate, length-replicate, length-map, get_or-map, get_or_append_left, get_or_push}
 use Rattle.kn_logic.specs.Literals.{Literal, names, has, is_same, AreKnown}
 use Rattle.kn_logic.specs.Constraints.{Bounded, is_clause, named, Fits}
@@ -14,7 +14,7 @@ use Rattle.kn_guess.specs.declared.marks.Mark.TheVariants.{Klause, Binary, Posit
 use Rattle.kn_guess.specs.Guesses.{in_klause, in_binary, stands, is_seed}
 use Rattle.kn_guess.specs.Seen.{IsSeen, passes}
 use Rattle.kn_guess.specs.Flags.{marks, marked_in, raised, AreMarked}
-use Rattle.kn_guess.proofs.Elements.{bool-same, and-both, any-with, each-any, any-map, any-alike, all-among}
+use Rattle.kn_guess.proofs.Elements.{bool-same, any-with, each-any, any-map, any-alike, all-among}
 use Rattle.kn_guess.proofs.Lives.{IsLive, all-live, clause-named}
 use Rattle.kn_guess.proofs.Taken.{among-chosen}
 use Rattle.kn_guess.proofs.Bordered.{the-literal}
@@ -165,7 +165,7 @@ passed-all mark s end flags stored h low = record {
         (sym (any-map (λ p. p.constraint) (marked_in mark x) s.live) ∙ e) in
         let p = q.0 in
         let there = among-chosen s (λ c. names (named c) x) p.id
-        ∙ q.2.1 (λ r. (r.id == p.id) && names (named r.constraint) x) (and-both (p.id == p.id) (names (named p.constraint) x) (eq-eqb p.id p.id refl) (marked-names mark x p.constraint q.1)) in
+        ∙ q.2.1 (λ r. (r.id == p.id) && names (named r.constraint) x) (and_from (p.id == p.id) (names (named p.constraint) x) (eq-eqb p.id p.id refl) (marked-names mark x p.constraint q.1)) in
         let before = all-among (λ k. k < end) (ids_of (naming x s.live)) p.id (low x first last) there in
         any-in (λ id. passes (marked_in mark x) (constraint_at s.live id)) (range_with_len 0 end) p.id (in-range 0 end p.id (omega arith) (omega (arith, before))) (ap (passes (marked_in mark x)) q.2.0.own ∙ q.1)
 

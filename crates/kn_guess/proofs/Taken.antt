@@ -3,7 +3,7 @@ use Rattle.std.proofs.Common.{◌≡◌, ℕ, ◌≤◌, ◌==◌, Bool, true, f
 use Rattle.std.specs.Prelude.{option_to_list}
 use Rattle.std.specs.List.{list_any, flat_map, AllByRecursion}
 use Rattle.std.specs.List.Sorted.{IsStrictlyIncreasing}
-use Rattle.std.proofs.lemmas.Bool.{or_left, or_right, and_parts, eqb-true}
+use Rattle.std.proofs.lemmas.Bool.{or_left, or_right, and_parts, eqb-true, and_from, not-true, not_from_false}
 use Rattle.std.proofs.lemmas.List.Folds.{list_any-append}
 use Rattle.kn_logic.specs.Literals.{Literal, names, has}
 use Rattle.kn_logic.specs.Constraints.{Bounded, named, is_clause}
@@ -12,7 +12,7 @@ use Rattle.kn_store.specs.Stores.{Numbered, Stored, IsStored, constraints_of, id
 use Rattle.kn_store.proofs.Public.{all-one, all-two, to-map, all-filter, all-pass, IsOwn, own, rises}
 use Rattle.kn_guess.specs.Guesses.{in_klause, touches, stands, is_border, IsBorder}
 use Rattle.kn_guess.specs.Seen.{found, ids_with}
-use Rattle.kn_guess.proofs.Elements.{bool-same, and-both, not-true, false-not, any-with, each-any, any-map, any-filter, all-among, own-among}
+use Rattle.kn_guess.proofs.Elements.{bool-same, any-with, each-any, any-map, any-filter, all-among, own-among}
 use Rattle.kn_guess.proofs.Rising.{numbers-one, rises-ids}
 use Rattle.kn_guess.proofs.Lives.{IsLive, all-live, clause-named, is-plain}
 use Rattle.kn_guess.proofs.Bordered.{touches-from, touched, own-has}
@@ -39,7 +39,7 @@ ids-same s aux id = any-flat (λ v. v == id) (λ x. ids_of (naming x s.live)) au
         let x = any-with (λ x. is_among aux x ≡ true) (λ x. is_among (ids_of (naming x s.live)) id) aux (own-among aux) e in
         let p = any-with (λ p. (f : Numbered → Bool) → f p ≡ true → list_any f s.live ≡ true) (λ p. (p.id == id) && names (named p.constraint) x.0) s.live (each-any s.live) (sym (among-named s x.0 id) ∙ x.1) in
         let both = and_parts (p.0.id == id) (names (named p.0.constraint) x.0) p.1 in
-        among-chosen s (touches aux) id ∙ p.2 (λ q. (q.id == id) && touches aux q.constraint) (and-both (p.0.id == id) (touches aux p.0.constraint) both.0 (touches-from aux p.0.constraint x.0 x.2 both.1))
+        among-chosen s (touches aux) id ∙ p.2 (λ q. (q.id == id) && touches aux q.constraint) (and_from (p.0.id == id) (touches aux p.0.constraint) both.0 (touches-from aux p.0.constraint x.0 x.2 both.1))
 
     back : is_among (ids_of (chosen (touches aux) s.live)) id ≡ true → list_any (λ x. is_among (ids_of (naming x s.live)) id) aux ≡ true
     back e =
@@ -47,7 +47,7 @@ ids-same s aux id = any-flat (λ v. v == id) (λ x. ids_of (naming x s.live)) au
         let both = and_parts (p.0.id == id) (touches aux p.0.constraint) p.1 in
         let t = touched aux p.0.constraint both.1 in
         any-from (λ x. is_among (ids_of (naming x s.live)) id) aux t.0 t.1
-        (among-named s t.0 id ∙ p.2 (λ q. (q.id == id) && names (named q.constraint) t.0) (and-both (p.0.id == id) (names (named p.0.constraint) t.0) both.0 t.2))
+        (among-named s t.0 id ∙ p.2 (λ q. (q.id == id) && names (named q.constraint) t.0) (and_from (p.0.id == id) (names (named p.0.constraint) t.0) both.0 t.2))
 
 pub ids-are : (s : Stored) (aux ids : List ℕ) → IsStored s → IsStrictlyIncreasing ids → ((x : ℕ) → is_among ids x ≡ is_among (ids_with s.live aux) x) → ids ≡ ids_of (chosen (touches aux) s.live)
 ids-are s aux ids stored up same =
@@ -82,7 +82,7 @@ covers aux taken border c l is some clause stand = at (is_among aux l.variable) 
     at : (t : Bool) → is_among aux l.variable ≡ t → (is_among aux l.variable || has border l) ≡ true
     at true e = or_left (is_among aux l.variable) (has border l) e
     at false e = or_right (is_among aux l.variable) (has border l)
-        (is l ∙ and-both (stands taken l) (not (is_among aux l.variable)) (some (λ d. has (named d) l) (ap (λ z. has z l) (clause-named c clause) ∙ stand)) (false-not (is_among aux l.variable) e))
+        (is l ∙ and_from (stands taken l) (not (is_among aux l.variable)) (some (λ d. has (named d) l) (ap (λ z. has z l) (clause-named c clause) ∙ stand)) (not_from_false (is_among aux l.variable) e))
 
 pub group-is : (s : Stored) (aux : List ℕ) (taken : List Bounded) (border : List Literal) → IsStored s → AllByRecursion (λ x. (1 ≤ x) × (x ≤ s.vars)) aux → AllByRecursion (λ x. in_klause (constraints_of s.live) x ≡ false) aux
     → IsStrictlyIncreasing aux → taken ≡ constraints_of (chosen (touches aux) s.live) → IsBorder taken aux border → IsGroup (record { aux = aux; taken = taken; border = border })

@@ -2,13 +2,13 @@
 use Rattle.std.proofs.Common.{◌≡◌, ℕ, suc, ◌+◌, ◌≤◌, ◌<◌, ◌==◌, Bool, true, false, not, cond, ◌&&◌, ◌||◌, List, [], ◌∷◌, ◌++◌, length, drop, set, get_or, refl, sym, ap, subst, ◌∙◌, inl, inr, arith, true≢false}
 use Rattle.std.specs.Prelude.{◌⊎◌, zero, nat_eq}
 use Rattle.std.specs.List.{list_any, AllByRecursion}
-use Rattle.std.proofs.lemmas.Bool.{or_left, or_right, or_cases, or_parts, and_parts, eqb-true, eqb-false, eq-eqb, cond-true}
+use Rattle.std.proofs.lemmas.Bool.{or_left, or_right, or_cases, or_parts, and_parts, eqb-true, eqb-false, eq-eqb, cond-true, and_from}
 use Rattle.std.proofs.lemmas.List.{length-set, get_or-set_same, get_or-set_other, drop_all, drop_more, get_or_default}
 use Rattle.indexmap.specs.IndexSet.{insert_key}
 use Rattle.kn_logic.specs.Groups.{is_among}
 use Rattle.kn_store.proofs.Public.{all-one}
 use Rattle.kn_guess.specs.Walks.{kept, is_near, Thins, AllThin, Grows, HasAll, IsWithin}
-use Rattle.kn_guess.proofs.Elements.{and-both, any-with, each-any, own-among, all-among, any-among, among-append, among-last}
+use Rattle.kn_guess.proofs.Elements.{any-with, each-any, own-among, all-among, any-among, among-append, among-last}
 use Rattle.kn_guess.proofs.Gathers.{extends-self, extends-trans, among-extends, apart-end}
 
 -- sets
@@ -182,7 +182,7 @@ meeting-join test start vars met0 met new-met set0 set new-set at next v found n
     inside = let p = h.place in omega (arith, p, e)
 
     mine : both v ≡ true
-    mine = and-both (test v) (is_among start v) on (h.thins.0 v (ap (is_among vars) is ∙ among-at vars next inside))
+    mine = and_from (test v) (is_among start v) on (h.thins.0 v (ap (is_among vars) is ∙ among-at vars next inside))
 
     behind : (w : ℕ) → ((get_or vars next 0 == w) ≡ true) ⊎ (is_among (drop (next + 1) vars) w ≡ true) → is_among new-met w ≡ true
     behind w (inl s) = ap (is_among new-met) (sym (is ∙ eqb-true (get_or vars next 0) w s)) ∙ join-in met new-met set new-set v new j
@@ -201,7 +201,7 @@ meeting-full test start vars met0 met new-met set0 set new-set at next v found n
     both w = test w && is_among start w
 
     mine : both v ≡ true
-    mine = and-both (test v) (is_among start v) on (h.thins.0 v (ap (is_among vars) is ∙ among-at vars next (let p = h.place in omega (arith, p, e))))
+    mine = and_from (test v) (is_among start v) on (h.thins.0 v (ap (is_among vars) is ∙ among-at vars next (let p = h.place in omega (arith, p, e))))
 
 -- at the end all were met
 pub meeting-all : (test : ℕ → Bool) (start vars met0 met set0 set : List ℕ) (at : ℕ) (found : Bool) → IsMeeting test start vars met0 met set0 set at found → at ≡ 0 → (v : ℕ) → (test v && is_among start v) ≡ true → is_among met v ≡ true
@@ -340,7 +340,7 @@ visit-grows test start members ids0 ids met set0 set at next k vars new-vars new
     imp v q =
         let both = and_parts (test v) (is_among vars v) q in
         let here : is_near members ids v ≡ true = near-of members ids k v (ap (is_among ids) is ∙ next-in ids at next w.place e) (ap (λ z. is_among z v) (sym was) ∙ both.1) in
-        and-both (test v) (is_near start ids0 v) both.0 (near-less test start members ids0 v w.shrunk (near-more members ids ids0 v w.less here))
+        and_from (test v) (is_near start ids0 v) both.0 (near-less test start members ids0 v w.shrunk (near-more members ids ids0 v w.less here))
 
 pub walking-found : (test : ℕ → Bool) (start members new : List (List ℕ)) (ids0 ids met set0 set : List ℕ) (at next k : ℕ) (vars new-vars new-met new-set : List ℕ) → IsWalking test start members ids0 ids met set0 set at → at ≡ next + 1 → k ≡ get_or ids next 0 → vars ≡ kept members k
     → new ≡ set_of members k new-vars → AllThin test members new → k < length members → IsVisit test vars new-vars met new-met set new-set → length new-set ≤ 256 → IsWalking test start new ids0 ids new-met set0 new-set next
@@ -366,7 +366,7 @@ walking-found test start members new ids0 ids met set0 set at next k vars new-va
         (q.0, next-behind new ids at next v w.place e (inl (ap (λ z. is_among z v) row-is ∙ visit.thins.1 v q.0 q.1)))
 
     done : (v : ℕ) → test v ≡ true → (is_among (kept new (get_or ids next 0)) v ≡ true) ⊎ (is_near new (drop at ids) v ≡ true) → is_among new-set v ≡ true
-    done v t (inl s) = visit.all few v (and-both (test v) (is_among vars v) t (visit.thins.0 v (ap (λ z. is_among z v) (sym row-is) ∙ s)))
+    done v t (inl s) = visit.all few v (and_from (test v) (is_among vars v) t (visit.thins.0 v (ap (λ z. is_among z v) (sym row-is) ∙ s)))
     done v t (inr s) = grows-in (λ u. test u && is_among vars u) set new-set v visit.set_grows (w.done v t (near-less test members new (drop at ids) v thin s))
 
 -- the clause gave nothing new, and leaves
@@ -403,7 +403,7 @@ walking-drop test start members new ids0 ids left met set0 set at next k vars ne
       | inl s ↦ near-of new left q.0 v s q.1
       | inr s ↦ (
           let there : is_among new-vars v ≡ true = ap (λ z. is_among z v) (sym row-is) ∙ ap (λ j. is_among (kept new j) v) (eqb-true (get_or ids next 0) q.0 s) ∙ q.1 in
-          let old = w.met_near v (none.1 v (and-both (test v) (is_among vars v) t (visit.thins.0 v there))) in
+          let old = w.met_near v (none.1 v (and_from (test v) (is_among vars v) t (visit.thins.0 v there))) in
           near-more new (drop next left) left v (drop-within next left) (behind-left v t old.1)
           )
     ]

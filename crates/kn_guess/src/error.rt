@@ -14,7 +14,7 @@ pub enum NoGuess {
     TooWideBorder,
     /// A variable stands at the border in both polarities; `var` is the least such.
     TwoSided { var: u64 },
-    /// Memory is wanting.
+    /// Memory is short.
     Memory,
 }
 

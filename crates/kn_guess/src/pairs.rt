@@ -48,7 +48,7 @@ impl Model for Pairs {
 }
 
 impl Pairs {
-    /// The pairs of a store. An error where memory is wanting.
+    /// The pairs of a store. An error where memory is short.
     pub fn new(alloc: Global, store: &Store) -> Result<Pairs, NoMemory>
         ensures { IfOk result (IsPairTable store.now) }
     {

@@ -60,7 +60,7 @@ impl Model for Seeds {
 }
 
 impl Seeds {
-    /// The seeds of a store. An error where memory is wanting.
+    /// The seeds of a store. An error where memory is short.
     pub fn new(alloc: Global, store: &Store) -> Result<Seeds, NoMemory>
         ensures table { IfOk result (IsSeedTable store.now) }
         ensures from { IfOk result (λ x. x.from ≡ 1) }

@@ -1,7 +1,7 @@
 -- Runs of hints over arms: what is had stays, an arm with its opposite is a conflict, and clauses of arms settle them.
 use Rattle.std.proofs.Common.{◌≡◌, ℕ, ◌+◌, ◌⊎◌, ◌++◌, Bool, true, false, not, cond, eqb, ltb, List, [], ◌∷◌, Option, None, Some, refl, sym, ap, ◌∙◌, subst, inl, inr, arith}
 use Rattle.std.specs.List.{AllByRecursion, filter}
-use Rattle.std.proofs.lemmas.Bool.{or_cases, or_right, cond_both, eqb-true, not_from_false}
+use Rattle.std.proofs.lemmas.Bool.{or_cases, or_right, cond_both, eqb-true, not_from_false, not_from_true}
 use Rattle.std.proofs.lemmas.List.{append-nil}
 use Rattle.kn_logic.specs.Literals.{Literal, negated, is_same, has, places}
 use Rattle.kn_logic.specs.Constraints.{Bounded, clause, klause}
@@ -154,13 +154,10 @@ left_skips : (l : Literal) (kept : List Literal) (n : ℕ) (a : Arm) (b : Bool) 
 left_skips l kept n a true e h = absurd cc
 left_skips l kept n a false e h = (let m : n ≡ 0 + n = omega arith in subst (λ (x : ℕ). LeftBy x kept a) m h)
 
-not_of_true : (b : Bool) → b ≡ true → not b ≡ false
-not_of_true b e = ap not e
-
 left_behind : (trail : List Literal) (b : Arm) (bs : List Arm) (a : Arm) → Has (Some trail) (opposite b) → LeftBy (open_places trail (literals_of bs)) (filter (is_open trail) (literals_of bs)) a → LeftBy (open_places trail (literals_of (b ∷ bs))) (filter (is_open trail) (literals_of (b ∷ bs))) a
 left_behind trail arm.True bs a h k = absurd h
 left_behind trail arm.False bs a h k = k
-left_behind trail (arm.Lit l) bs a h k = left_skips l (filter (is_open trail) (literals_of bs)) (open_places trail (literals_of bs)) a (is_open trail l) (not_of_true _ h) k
+left_behind trail (arm.Lit l) bs a h k = left_skips l (filter (is_open trail) (literals_of bs)) (open_places trail (literals_of bs)) a (is_open trail l) (not_from_true _ h) k
 
 left_of : (trail : List Literal) (arms : List Arm) (a : Arm) → IsLeft (Some trail) arms a → LeftBy (open_places trail (literals_of arms)) (filter (is_open trail) (literals_of arms)) a
 left_of trail [] a h = absurd h

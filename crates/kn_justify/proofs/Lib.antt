@@ -30,4 +30,5 @@ pub mod PairGroupLemmas
 pub mod PairBorderLemmas
 pub mod PairClosingLemmas
 pub mod PairTestLemmas
+pub mod CountTestLemmas
 pub mod MadeLemmas

@@ -1,7 +1,7 @@
 -- Pair groups, ids and numbers of which a test tells.
 use Rattle.std.proofs.Common.{◌≡◌, ℕ, zero, suc, ◌+◌, ◌++◌, ◌&&◌, ◌||◌, ◌≤◌, Bool, true, false, not, List, [], ◌∷◌, length, take, Some, nat_eq, refl, sym, ap, ◌∙◌, subst, inl, inr, arith}
 use Rattle.std.specs.List.{AllByRecursion, IsDistinct, list_all, slice_get}
-use Rattle.std.proofs.lemmas.Bool.{and_parts, or_cases}
+use Rattle.std.proofs.lemmas.Bool.{and_parts, or_cases, not-true}
 use Rattle.kn_logic.specs.Literals.{Literal, is_same, has}
 use Rattle.kn_logic.specs.Constraints.{Bounded}
 use Rattle.kn_logic.specs.Groups.{Gathered, IsGroup, has_pair, is_covered, IsPairGroup}
@@ -38,13 +38,9 @@ abbrev pub are_distinct : List ℕ → Bool
 are_distinct [] = true
 are_distinct (id ∷ ids) = list_all (λ y. not (nat_eq id y)) ids && are_distinct ids
 
-apart : (b : Bool) → not b ≡ true → b ≡ false
-apart true e = absurd cc
-apart false e = refl
-
 apart-all : (id : ℕ) (ids : List ℕ) → list_all (λ y. not (nat_eq id y)) ids ≡ true → AllByRecursion (λ y. nat_eq id y ≡ false) ids
 apart-all id [] e = tt
-apart-all id (y ∷ ids) e = (let (first, rest) = and_parts (not (nat_eq id y)) (list_all (λ y. not (nat_eq id y)) ids) e in (apart (nat_eq id y) first, apart-all id ids rest))
+apart-all id (y ∷ ids) e = (let (first, rest) = and_parts (not (nat_eq id y)) (list_all (λ y. not (nat_eq id y)) ids) e in (not-true (nat_eq id y) first, apart-all id ids rest))
 
 pub tested-distinct : (ids : List ℕ) → are_distinct ids ≡ true → IsDistinct nat_eq ids
 unfolding IsDistinct

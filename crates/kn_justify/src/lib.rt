@@ -29,4 +29,4 @@ pub use pair_groups::justify_pairs;
 pub use units::{and_unit, exists_unit};
 
 #[cfg(test)]
-mod pair_tests;
+mod tests;

@@ -54,8 +54,8 @@ pub(crate) fn quantified<S: Sink>(
     entries(alloc, d, &basis, met, named, log, sink)
 }
 
-// What the entries of a quantification rest on: the variable and its place in the order, and the lemmas of both sides of
-// the disjunctions.
+// What the entries of a quantification rest on: the variable and its place in the order, and the lemmas of both sides
+// of the disjunctions.
 #[derive(Drop)]
 struct Basis {
     var: u64,

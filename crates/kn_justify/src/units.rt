@@ -71,8 +71,8 @@ pub fn and_unit<S: Sink>(
     unit(alloc, &last, left, right, lemma, named, log, sink)
 }
 
-/// The unit of the node of an `Exists` stage, whose nodes are named: the clause of the node's arm alone, from the unit of
-/// its first node, by a lemma for each entry of its traces that needs one. Answers its id; `None` exactly
+/// The unit of the node of an `Exists` stage, whose nodes are named: the clause of the node's arm alone, from the unit
+/// of its first node, by a lemma for each entry of its traces that needs one. Answers its id; `None` exactly
 /// where the node is "true".
 pub fn exists_unit<S: Sink>(
     alloc: Global,

@@ -1,4 +1,5 @@
-//! A klause with a guard that marks the places it watches: those of its literals and, last, that of the guard's negation.
+//! A klause with a guard that marks the places it watches: those of its literals and, last, that of the guard's
+//! negation.
 ghost use Rattle.std.specs.Prelude.{◌≡◌, ◌≤◌, ◌<◌, ℕ, Bool, true, false, length, None, IfOk};
 ghost use Rattle.std.specs.Option.{is_some, IsSome};
 ghost use Rattle.kn_logic.specs.Propagation.{is_open};
@@ -25,7 +26,7 @@ pub struct GuardWatch {
 }
 
 impl GuardWatch {
-    /// Watches no place of a klause with a guard yet. An error where memory is wanting.
+    /// Watches no place of a klause with a guard yet. An error where memory is short.
     pub fn new(alloc: Global, klause: Constraint) -> Result<GuardWatch, NoMemory>
         requires { IsSome klause.guard }
         ensures { IfOk result (λ w. w.klause ≡ klause) }

@@ -24,7 +24,7 @@ pub struct KlauseWatch {
 }
 
 impl KlauseWatch {
-    /// Watches no place of a klause yet. An error where memory is wanting.
+    /// Watches no place of a klause yet. An error where memory is short.
     pub fn new(alloc: Global, klause: Constraint) -> Result<KlauseWatch, NoMemory>
         requires { klause.guard ≡ None }
         ensures { IfOk result (λ w. w.klause ≡ klause) }

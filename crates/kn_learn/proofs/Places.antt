@@ -1,8 +1,8 @@
 -- Places of a trail, and what stands there.
-use Rattle.std.proofs.Common.{◌≡◌, ℕ, zero, suc, ◌+◌, ◌≤◌, ◌<◌, Bool, true, false, not, eqb, List, [], ◌∷◌, length, take, Option, None, Some, IfSome, refl, sym, ap, ◌∙◌, subst, inl, inr, arith}
+use Rattle.std.proofs.Common.{◌≡◌, ℕ, zero, suc, ◌+◌, ◌≤◌, ◌<◌, true, false, eqb, List, [], ◌∷◌, length, take, Option, None, Some, IfSome, refl, sym, ap, ◌∙◌, subst, inl, inr, arith}
 use Rattle.std.specs.List.{AllByRecursion, slice_get}
 use Rattle.std.specs.Option.{option_and_then, option_map, unwrap_or}
-use Rattle.std.proofs.lemmas.Bool.{or_cases, or_left, or_right, eq-eqb, cases_Bool}
+use Rattle.std.proofs.lemmas.Bool.{or_cases, or_left, or_right, eq-eqb, cases_Bool, not-false}
 use Rattle.std.proofs.lemmas.Option.{same_Some}
 use Rattle.kn_logic.specs.Literals.{Literal, negated, is_same, has, names, AreDifferent}
 use Rattle.kn_logic.proofs.Public.{same_literal, same-refl, has-first}
@@ -105,10 +105,6 @@ reason-of made place m o at is = ap (λ (x : Option ℕ). unwrap_or x 0) is ∙ 
     by (Some id) = refl
 
 -- a literal that is not false
-false-step : (b : Bool) → not b ≡ false → b ≡ true
-false-step true h = refl
-false-step false h = absurd cc
-
 pub not-open : (made : List Made) (l : Literal) (q : ℕ) (m : Made) → is_open (literals made) l ≡ true → slice_get made q ≡ Some m → m.lit ≡ negated l → ⊥
 not-open made l q m h at is =
     let there : has (literals made) (negated l) ≡ true = subst (λ (x : Literal). has (literals made) x ≡ true) is (has-at made q m at) in
@@ -117,7 +113,7 @@ not-open made l q m h at is =
 -- the place of a false literal
 pub false-place : (made : List Made) (l : Literal) (p : ℕ) (m : Made) → AreDifferent (literals made) → is_open (literals made) l ≡ false → slice_get made p ≡ Some m → m.lit.variable ≡ l.variable → m.lit ≡ negated l
 false-place made l p m d h at var =
-    let (q, n, get, same) = has-somewhere made (negated l) (false-step (has (literals made) (negated l)) h) in
+    let (q, n, get, same) = has-somewhere made (negated l) (not-false (has (literals made) (negated l)) h) in
     let one = same-made made p q m n d at get (var ∙ ap (λ (x : Literal). x.variable) same) in
     ap (λ (x : Made). x.lit) one ∙ sym same
 

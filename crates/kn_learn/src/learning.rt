@@ -22,7 +22,7 @@ use kn_watch::{Trail, Watched};
 use std::alloc::Global;
 
 /// What a conflict teaches with which the last propagation ended, at a level of at least 1. An error where
-/// memory is wanting.
+/// memory is short.
 pub fn learn<C: Watched, K: Watched>(
     alloc: Global,
     engine: &Engine<C, K>,

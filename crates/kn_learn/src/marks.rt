@@ -84,7 +84,7 @@ impl Marks {
         }
     }
 
-    /// Marks a place. An error where memory is wanting.
+    /// Marks a place. An error where memory is short.
     pub fn set(&mut self, place: usize, mark: Mark) -> Result<(), NoMemory>
         ensures { OnOk result (IsMarked self.old place mark self.new) }
     {

@@ -16,7 +16,7 @@ use kn_watch::Watched;
 use std::alloc::Global;
 
 /// The hints of a conflict with which the last propagation ended, at level 0: their run from no literals ends in
-/// conflict. An error where memory is wanting.
+/// conflict. An error where memory is short.
 pub fn root_hints<C: Watched, K: Watched>(
     alloc: Global,
     engine: &Engine<C, K>,

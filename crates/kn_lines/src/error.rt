@@ -11,7 +11,7 @@ use std::fmt;
 pub enum LineError {
     /// The line is neither skipped nor a line of a proof.
     Bad,
-    /// Memory ran out.
+    /// Memory is short.
     Memory,
 }
 

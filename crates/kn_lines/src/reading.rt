@@ -10,7 +10,7 @@ use kn_text::{first_word, is_end, is_skipped, literal, number};
 use std::alloc::Global;
 
 /// The line of a proof that these bytes spell, which hold no line feed; `None` where the line is skipped,
-/// since it is blank or a comment. `Bad` where it is neither, `Memory` where memory runs out.
+/// since it is blank or a comment. `Bad` where it is neither, `Memory` where memory is short.
 pub fn read_line(alloc: Global, bytes: &[u8]) -> Result<Option<Line>, LineError>
     ensures spelled { IfOk result (λ read. IfSome read (λ line. SpellsLine bytes.now line)) }
     ensures formed { IfOk result (λ read. IfSome read (λ line. IsWellFormed line)) }

@@ -22,7 +22,7 @@ pub fn write_line(alloc: Global, line: &Line) -> Result<Vec<u8>, NoMemory>
     Ok(text)
 }
 
-// Appends a line with its line feed. Where memory is wanting, `out` may hold a part of it.
+// Appends a line with its line feed. Where memory is short, `out` may hold a part of it.
 fn push_line(out: &mut Vec<u8>, line: &Line) -> Result<(), NoMemory>
     requires { IsWellFormed line.now }
     ensures text { OnOk result (out.new.items ≡ out.old.items ++ line_text (line_words line.now)) }

@@ -52,7 +52,7 @@ Logs line old new w w' (Err e) = LogsNot line old new w w' e
 abbrev pub IsSpelled : Line → Type 0
 IsSpelled line = SpellsWords (line_words line) line
 
--- the line was written, or would have been but for a fault; nothing is said where memory was wanting
+-- the line was written, or would have been but for a fault; nothing is said where memory was short
 abbrev pub IsSpelledUnless : LogError → Line → Type 0
 IsSpelledUnless Fault line = IsSpelled line
 IsSpelledUnless Memory line = Unit {0}

@@ -22,7 +22,7 @@ impl Model for Assignment {
 
 impl Assignment {
     /// The same value for each variable from 1 to `vars`, which is any number from 0. An error where
-    /// memory is wanting.
+    /// memory is short.
     pub fn new(alloc: Global, vars: u64, value: bool) -> Result<Assignment, NoMemory>
         ensures { IfOk result (λ m. m ≡ replicate vars value) }
     {

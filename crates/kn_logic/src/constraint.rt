@@ -74,7 +74,7 @@ impl Constraint {
         self.bound == 1 && self.guard.is_none()
     }
 
-    /// The same constraint once more. An error where memory is wanting.
+    /// The same constraint once more. An error where memory is short.
     pub fn copy(&self) -> Result<Constraint, NoMemory>
         ensures { IfOk result (λ c. c ≡ self.now) }
     {

@@ -37,7 +37,7 @@ impl Formula {
     }
 
     /// Adds a constraint at the end. Its variables are from 1 to the number of variables, and a klause
-    /// names none twice. Where memory is wanting, an error, and the formula is as before.
+    /// names none twice. Where memory is short, an error, and the formula is as before.
     pub fn push(&mut self, c: Constraint) -> Result<(), NoMemory>
         requires { Fits self.old.vars c }
         ensures ok { OnOk result (self.new ≡ record self.old { constraints = self.old.constraints ++ c ∷ [] }) }
@@ -78,7 +78,7 @@ impl Formula {
         &self.constraints
     }
 
-    /// The same formula once more. An error where memory is wanting.
+    /// The same formula once more. An error where memory is short.
     pub fn copy(&self) -> Result<Formula, NoMemory>
         ensures { IfOk result (λ f. f ≡ self.now) }
     {

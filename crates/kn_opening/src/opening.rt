@@ -16,9 +16,9 @@ use kn_logic::NoMemory;
 use std::alloc::Global;
 
 /// Writes the opening of a proof behind the header of the formula that an extraction began with: for each group, in
-/// their order, the lines that justify its klause, and the deletion of its clauses. Answers the ids of the constraints of
-/// the formula that remains, in their order. An error where memory is short, or the sink counted a fault: the lines so
-/// far were written, all but the last of them whole.
+/// their order, the lines that justify its klause, and the deletion of its clauses. Answers the ids of the constraints
+/// of the formula that remains, in their order. An error where memory is short, or the sink counted a fault: the lines
+/// so far were written, all but the last of them whole.
 pub fn open<S: Sink>(
     alloc: Global,
     e: &Extraction,

@@ -1,8 +1,9 @@
 -- The walk along a chain, step by step, over the tables.
-use Rattle.std.proofs.Common.{◌≡◌, ◌≢◌, ℕ, zero, suc, ◌+◌, ◌-◌, ◌≤◌, ◌<◌, ◌++◌, Bool, true, false, not, cond, eqb, List, [], ◌∷◌, Some, length, refl, sym, ap, ◌∙◌, subst, inl, inr, arith}
+use Rattle.std.proofs.Common.{◌≡◌, ◌≢◌, ℕ, zero, suc, ◌+◌, ◌-◌, ◌≤◌, ◌<◌, ◌++◌, true, false, not, eqb, List, [], ◌∷◌, Some, length, refl, sym, ap, ◌∙◌, subst, inl, inr, arith}
 use Rattle.std.specs.Prelude.{slice_index_or, slice_set}
-use Rattle.std.proofs.lemmas.Bool.{or_left, or_right, and_from, not_from_true, eq-eqb, ne_eqb, cases_eq, cond-true, cond-false}
+use Rattle.std.proofs.lemmas.Bool.{or_left, or_right, not_from_true, eq-eqb, ne_eqb, cases_eq, cond-true, cond-false}
 use Rattle.std.proofs.Math.ListN.{length-set}
+use Rattle.kn_logic.proofs.Public.{same-refl}
 use Rattle.kn_logic.specs.Literals.{Literal, negated, has, is_same}
 use Rattle.kn_logic.specs.Propagation.{is_open}
 use Rattle.kn_watch.specs.declared.trail.Made.{Made}
@@ -216,14 +217,7 @@ is_false trail l x q h =
     let n = code_one x (negated l) q in
     subst (λ (z : Literal). is_open trail z ≡ false) (sym n) (subst (λ (z : Literal). not (has trail z) ≡ false) (sym (negated_twice l)) (not_from_true _ h))
 
-one : (p : Bool) → cond p p (not p) ≡ true
-one true = refl
-one false = refl
-
-same_self : (l : Literal) → is_same l l ≡ true
-same_self l = and_from (eqb l.variable l.variable) _ (eq-eqb l.variable l.variable refl) (one l.positive)
-
 pub has_at : (made : List Made) (place : ℕ) → place < length made → has (literals made) (lit_of made place) ≡ true
 has_at [] place lt = absurd (omega (arith, lt))
-has_at (m ∷ made) zero lt = or_left (is_same m.lit m.lit) (has (literals made) m.lit) (same_self m.lit)
+has_at (m ∷ made) zero lt = or_left (is_same m.lit m.lit) (has (literals made) m.lit) (same-refl m.lit)
 has_at (m ∷ made) (suc place) lt = or_right (is_same (lit_of made place) m.lit) (has (literals made) (lit_of made place)) (has_at made place (omega (arith, lt)))

@@ -5,6 +5,7 @@ use Rattle.std.specs.List.{AllByRecursion}
 use Rattle.std.proofs.lemmas.Bool.{or_cases, or_left, or_right}
 use Rattle.std.proofs.lemmas.List.{map-append, take-append-le, take_more}
 use Rattle.std.proofs.Math.ListN.{length-set}
+use Rattle.kn_logic.proofs.Public.{known-append}
 use Rattle.kn_logic.specs.Constraints.{Bounded, IsWithin}
 use Rattle.kn_logic.specs.Literals.{Literal, is_same, has, IsKnown, AreKnown}
 use Rattle.kn_logic.specs.Propagation.{is_open}
@@ -142,16 +143,12 @@ at_known vars [] place k lt = absurd (omega (arith, lt))
 at_known vars (l ∷ lits) zero k lt = k.0
 at_known vars (l ∷ lits) (suc place) k lt = at_known vars lits place k.1 (omega (arith, lt))
 
-known_append : (vars : ℕ) (a b : List Literal) → AreKnown vars a → AreKnown vars b → AreKnown vars (a ++ b)
-known_append vars [] b s t = t
-known_append vars (l ∷ a) b s t = (s.0, known_append vars a b s.1 t)
-
 known_guard : (vars : ℕ) (guard : Option Literal) → IfSome guard (IsKnown vars) → AreKnown vars (unguarded guard)
 known_guard vars None k = tt
 known_guard vars (Some g) k = (k, tt)
 
 pub listed_known : (vars : ℕ) (c : Bounded) (place : ℕ) → IsWithin vars c → place < length (listed c) → IsKnown vars (lit_at (listed c) place)
-listed_known vars c place w lt = at_known vars (listed c) place (known_append vars c.lits (unguarded c.guard) w.lits (known_guard vars c.guard w.guard)) lt
+listed_known vars c place w lt = at_known vars (listed c) place (known-append vars c.lits (unguarded c.guard) w.lits (known_guard vars c.guard w.guard)) lt
 
 pub long_drawn : (nexts heads heads1 : List ℕ) (e : ℕ) → IsDrawn nexts heads heads1 (hand_of heads) (Some e) → length heads1 ≡ length heads
 long_drawn nexts heads heads1 e d = ap (λ (xs : List ℕ). length xs) d.1 ∙ length-set heads (hand_of heads) (slice_index_or nexts e 0)

@@ -48,7 +48,7 @@ impl Model for Chains {
 }
 
 impl Chains {
-    /// No entry, and for each literal over so many variables an empty chain. An error where memory is wanting.
+    /// No entry, and for each literal over so many variables an empty chain. An error where memory is short.
     pub fn new(alloc: Global, vars: u64) -> Result<Chains, NoMemory>
         ensures small { IfOk result (λ c. 2 * vars + 3 < 2 ^ 64) }
         ensures value { IfOk result (λ c. c ≡ record { spots = []; nexts = []; heads = replicate (2 * vars + 3) 0; spare = 0; room = 0 }) }
@@ -99,7 +99,7 @@ impl Chains {
         self.heads[chain] = entry + 1;
     }
 
-    /// Takes room for so many new entries. Nothing changes where memory is wanting.
+    /// Takes room for so many new entries. Nothing changes where memory is short.
     pub fn reserve(&mut self, count: usize) -> Result<(), NoMemory>
         ensures same { self.new ≡ record self.old { room = self.new.room } }
         ensures room { OnOk result (length self.old.spots + count ≤ self.new.room) }

@@ -54,7 +54,7 @@ impl<C: Watched, K: Watched> Model for Engine<C, K> {
 
 impl<C: Watched, K: Watched> Engine<C, K> {
     /// An engine over so many variables, without a constraint and without a literal, at level 0. An error where
-    /// memory is wanting.
+    /// memory is short.
     pub fn new(alloc: Global, vars: u64) -> Result<Engine<C, K>, NoMemory>
         ensures { IfOk result (λ e. e ≡ record { trail = record { vars = vars; level = 0; made = [] }; live = []; last = None }) }
     {
@@ -99,7 +99,7 @@ impl<C: Watched, K: Watched> Engine<C, K> {
     }
 
     /// Adds a clause under a new id. The trail stays as it is; the next propagation looks at the clause, where
-    /// it forces a literal or is in conflict. An error where memory is wanting: the engine is as before then,
+    /// it forces a literal or is in conflict. An error where memory is short: the engine is as before then,
     /// and the clause is given up.
     pub fn add_clause(&mut self, c: C, id: u64) -> Result<(), NoMemory>
         requires fresh { live_in self.old.live id ≡ None }

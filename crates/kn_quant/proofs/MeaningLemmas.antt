@@ -1,7 +1,7 @@
 -- What a run gives is true exactly where some values of the variables that it takes make all pieces true.
-use Rattle.std.proofs.Common.{ℕ, ◌≡◌, ◌==◌, ◌⊎◌, inl, inr, Bool, true, false, not, ◌&&◌, ◌||◌, if◌then◌else◌, List, [], ◌∷◌, ◌++◌, map, refl, sym, ap, subst, ◌∙◌, true≢false}
+use Rattle.std.proofs.Common.{ℕ, ◌≡◌, ◌==◌, ◌⊎◌, inl, inr, Bool, true, false, not, ◌||◌, if◌then◌else◌, List, [], ◌∷◌, ◌++◌, map, refl, sym, ap, subst, ◌∙◌, true≢false}
 use Rattle.std.specs.List.{list_any, AllByRecursion}
-use Rattle.std.proofs.lemmas.Bool.{eqb-true, eq-eqb, ne_eqb, cond-true, cond-false, and_parts, or_cases, or_left, or_right, or_parts, cases_eq, cases_Bool}
+use Rattle.std.proofs.lemmas.Bool.{eqb-true, eq-eqb, ne_eqb, cond-true, cond-false, and_parts, or_cases, or_left, or_right, or_parts, cases_eq, cases_Bool, and_from}
 use Rattle.kn_logic.specs.Literals.{Literal, has, is_same}
 use Rattle.kn_logic.specs.Constraints.{Bounded}
 use Rattle.kn_logic.specs.Groups.{Gathered, IsGroup, IsCovered, is_among}
@@ -14,17 +14,13 @@ use Rattle.kn_quant.specs.Runs.{Function, Step, both, whole, all_whole, Splits, 
 abbrev pub AreTrue : List Function → (ℕ → Bool) → Type 0
 AreTrue ps w = AllByRecursion (λ p. p w ≡ true) ps
 
-both-true : (a b : Bool) → a ≡ true → b ≡ true → (a && b) ≡ true
-both-true true b x y = y
-both-true false b x y = absurd (true≢false (sym x))
-
 pub whole-down : (p : Function) (ps : List Function) (w : ℕ → Bool) → whole p ps w ≡ true → AreTrue (p ∷ ps) w
 whole-down p [] w e = (e, tt)
 whole-down p (q ∷ qs) w e = let d = whole-down (both p q) qs w e in let h = and_parts (p w) (q w) d.0 in (h.0, (h.1, d.1))
 
 whole-up : (p : Function) (ps : List Function) (w : ℕ → Bool) → AreTrue (p ∷ ps) w → whole p ps w ≡ true
 whole-up p [] w h = h.0
-whole-up p (q ∷ qs) w h = whole-up (both p q) qs w (both-true (p w) (q w) h.0 h.1.0, h.1.1)
+whole-up p (q ∷ qs) w h = whole-up (both p q) qs w (and_from (p w) (q w) h.0 h.1.0, h.1.1)
 
 pub are-true-append : (xs ys : List Function) (w : ℕ → Bool) → AreTrue xs w → AreTrue ys w → AreTrue (xs ++ ys) w
 are-true-append [] ys w a b = b

@@ -13,7 +13,7 @@ pub enum QuantError {
     /// entries of clauses are not counted.
     Wide { stage: u64, level: u64 },
 
-    /// Memory ran out.
+    /// Memory is short.
     Memory,
 }
 

@@ -3,7 +3,7 @@
 use Rattle.std.proofs.Common.{ℕ, zero, suc, ◌≡◌, ◌+◌, ◌≤◌, ◌==◌, Bool, true, false, not, cond, ◌||◌, List, [], ◌∷◌, ◌++◌, map, Option, None, Some, refl, sym, ap, ap₂, subst, ◌∙◌, inl, inr, arith, true≢false}
 use Rattle.std.specs.Prelude.{◌⊎◌, option_to_list, IfSome}
 use Rattle.std.specs.List.{list_any, AllByRecursion}
-use Rattle.std.proofs.lemmas.Bool.{cond-true, cond-false, eq-eqb, eqb-true, or_cases, or_left, or_right, or_parts}
+use Rattle.std.proofs.lemmas.Bool.{cond-true, cond-false, eq-eqb, eqb-true, or_cases, or_left, or_right, or_parts, false_from_ne_true}
 use Rattle.kn_logic.specs.Literals.{Literal, has, AreKnown, places}
 use Rattle.kn_logic.specs.Assignments.{value_of, is_true, true_places}
 use Rattle.kn_logic.specs.Constraints.{Bounded, Holds, IsOff, Fits}
@@ -49,15 +49,11 @@ pub record IsStrange (z : ℕ) (g : Gathered) : Type 0 where
   pub aux : is_among g.aux z ≡ false
   pub border : AllByRecursion (λ l. (l.variable == z) ≡ false) g.border
 
-never : (b : Bool) → (b ≡ true → ⊥) → b ≡ false
-never false h = refl
-never true h = absurd (h refl)
-
 covered-other : (z : ℕ) (g : Gathered) (l : Literal) → IsStrange z g → IsCovered g l → (l.variable == z) ≡ false
 covered-other z g l strange h = by (or_cases (is_among g.aux l.variable) (has g.border l) h)
   where
     by : (is_among g.aux l.variable ≡ true) ⊎ (has g.border l ≡ true) → (l.variable == z) ≡ false
-    by (inl i) = never (l.variable == z) (λ e. true≢false (sym i ∙ ap (is_among g.aux) (eqb-true l.variable z e) ∙ strange.aux))
+    by (inl i) = false_from_ne_true (l.variable == z) (λ e. true≢false (sym i ∙ ap (is_among g.aux) (eqb-true l.variable z e) ∙ strange.aux))
     by (inr i) = All-has (λ x. (x.variable == z) ≡ false) g.border l strange.border i
 
 lits-ignore : (z : ℕ) (g : Gathered) (lits : List Literal) (v : ℕ → Bool) (b : Bool) → IsStrange z g → AllByRecursion (IsCovered g) lits
@@ -107,7 +103,7 @@ done-moves t (z ∷ zs) v w taken strange agree done =
     done-moves t zs (with_value v z (w z)) w taken strange.1 (λ x e. at x e (x == z) refl) (done-set z t v (w z) taken strange.0 done)
   where
     other : (x : ℕ) → (x == z) ≡ false → (z == x) ≡ false
-    other x e = never (z == x) (λ k. true≢false (sym (eq-eqb x z (sym (eqb-true z x k))) ∙ e))
+    other x e = false_from_ne_true (z == x) (λ k. true≢false (sym (eq-eqb x z (sym (eqb-true z x k))) ∙ e))
 
     at : (x : ℕ) → is_among zs x ≡ false → (s : Bool) → (x == z) ≡ s → w x ≡ with_value v z (w z) x
     at x e true k = ap w (eqb-true x z k) ∙ sym (cond-true (x == z) (w z) (v x) k)
@@ -117,11 +113,11 @@ done-moves t (z ∷ zs) v w taken strange agree done =
 
 over-zero : (vars : ℕ) (xs : List ℕ) → AllByRecursion (λ v. (1 ≤ v) × (v ≤ vars)) xs → is_among xs 0 ≡ false
 over-zero vars [] h = refl
-over-zero vars (x ∷ xs) h = ap₂ (λ s t. s || t) (never (x == 0) (λ e. let k = eqb-true x 0 e in absurd (omega (arith, k, h.0.0)))) (over-zero vars xs h.1)
+over-zero vars (x ∷ xs) h = ap₂ (λ s t. s || t) (false_from_ne_true (x == 0) (λ e. let k = eqb-true x 0 e in absurd (omega (arith, k, h.0.0)))) (over-zero vars xs h.1)
 
 known-zero : (vars : ℕ) (lits : List Literal) → AreKnown vars lits → AllByRecursion (λ l. (l.variable == 0) ≡ false) lits
 known-zero vars [] h = tt
-known-zero vars (l ∷ lits) h = (never (l.variable == 0) (λ e. let k = eqb-true l.variable 0 e in absurd (omega (arith, k, h.0.0))), known-zero vars lits h.1)
+known-zero vars (l ∷ lits) h = (false_from_ne_true (l.variable == 0) (λ e. let k = eqb-true l.variable 0 e in absurd (omega (arith, k, h.0.0))), known-zero vars lits h.1)
 
 pub zero-strange : (vars : ℕ) (g : Gathered) → IsOver vars g → IsStrange 0 g
 zero-strange vars g over = record { aux = over-zero vars g.aux over.aux; border = known-zero vars g.border over.border }
@@ -170,7 +166,7 @@ among-all P (y ∷ xs) x a e = by (λ m. among-all P xs x a.1 m) (or_cases (y ==
 lits-strange : (all : List ℕ) (z : ℕ) (lits : List Literal) → is_among all z ≡ true → AllByRecursion (λ l. is_among all l.variable ≡ false) lits → AllByRecursion (λ l. (l.variable == z) ≡ false) lits
 lits-strange all z [] i a = tt
 lits-strange all z (l ∷ lits) i a = (
-  never (l.variable == z) (λ e. true≢false (sym i ∙ ap (is_among all) (sym (eqb-true l.variable z e)) ∙ a.0)),
+  false_from_ne_true (l.variable == z) (λ e. true≢false (sym i ∙ ap (is_among all) (sym (eqb-true l.variable z e)) ∙ a.0)),
   lits-strange all z lits i a.1,
 )
 
@@ -179,7 +175,7 @@ strange-all [] all g foreign h = tt
 strange-all (z ∷ zs) all g foreign h =
     let i = h z (or_left (z == z) (is_among zs z) (eq-eqb z z refl)) in (
       record {
-        aux = never (is_among g.aux z) (λ e. true≢false (sym i ∙ among-all (λ x. is_among all x ≡ false) g.aux z foreign.aux e));
+        aux = false_from_ne_true (is_among g.aux z) (λ e. true≢false (sym i ∙ among-all (λ x. is_among all x ≡ false) g.aux z foreign.aux e));
         border = lits-strange all z g.border i foreign.border;
       },
       strange-all zs all g foreign (λ y e. h y (or_right (z == y) (is_among zs y) e)),

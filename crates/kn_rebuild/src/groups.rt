@@ -13,10 +13,10 @@ use crate::variables::rebuild_buckets;
 use kn_extract::{Extraction, Taken, groups_stand_apart, what_remains_is_known};
 use kn_logic::Assignment;
 
-/// Turns a model of the formula that remains of an extraction into one of the formula that it began with. Only auxiliary
-/// variables of groups change. The groups are handled in order, and in each the buckets of its elimination from the last
-/// to the first: the bucket's variable becomes true where its function holds with "true", and else false; a variable
-/// without a bucket keeps its value. Takes no memory.
+/// Turns a model of the formula that remains of an extraction into one of the formula that it began with. Only
+/// auxiliary variables of groups change. The groups are handled in order, and in each the buckets of its elimination
+/// from the last to the first: the bucket's variable becomes true where its function holds with "true", and else false;
+/// a variable without a bucket keeps its value. Takes no memory.
 pub fn rebuild(e: &Extraction, m: &mut Assignment)
     requires model { Satisfies m.old e.now.formula }
     ensures model { Satisfies m.new e.now.original }

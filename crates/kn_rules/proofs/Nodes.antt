@@ -1,8 +1,8 @@
 -- A variable that stands for a node of a grid is true exactly where as many of the literals are as the node
 -- says, under values that keep to the definitions.
-use Rattle.std.proofs.Common.{◌≡◌, ℕ, ◌+◌, ◌-◌, ◌≤◌, ◌<◌, Bool, true, false, not, cond, eqb, ltb, leb, List, [], ◌∷◌, length, Option, None, Some, IfSome, refl, sym, ap, ◌∙◌, inl, inr, arith}
+use Rattle.std.proofs.Common.{◌≡◌, ℕ, ◌+◌, ◌-◌, ◌≤◌, Bool, true, false, not, cond, eqb, ltb, leb, List, [], ◌∷◌, length, Option, None, Some, IfSome, refl, sym, ap, ◌∙◌, inl, inr, arith}
 use Rattle.std.specs.Option.{option_map_or}
-use Rattle.std.proofs.lemmas.Bool.{cond_both, and_parts, or_cases, eqb-true, eqb-false, ltb-true}
+use Rattle.std.proofs.lemmas.Bool.{cond_both, and_parts, or_cases, eqb-true, eqb-false, ltb-true, le-leb, lt-leb}
 use Rattle.kn_logic.proofs.Public.{true-negated, true-same}
 use Rattle.kn_logic.specs.Literals.{Literal, negated, is_same}
 use Rattle.kn_logic.specs.Assignments.{value_of, is_true, true_places}
@@ -52,12 +52,6 @@ inner-as values definition goes_on wanted arm.False h k e = absurd cc
 inner-as values definition goes_on wanted (arm.Lit l) h k e = lit-as values definition goes_on wanted l.variable l.positive h k e
 
 -- the count of a literal and those behind it
-leb-of : (j n : ℕ) → j ≤ n → leb j n ≡ true
-leb-of j n h = grind arith
-
-leb-not : (j n : ℕ) → n < j → leb j n ≡ false
-leb-not j n h = grind arith
-
 leb-suc : (j n : ℕ) → 1 ≤ j → leb (j - 1) n ≡ leb j (1 + n)
 leb-suc j n h = grind arith
 
@@ -105,9 +99,9 @@ places-within values (l ∷ lits) =
 node-as : (values : List Bool) (definition : ℕ → Option Definition) (goes_on : Definition → Bool) (n count j : ℕ) (a : Arm) → KeepsTo values definition → count ≤ n → (1 ≤ j → (d : Definition) → goes_on d ≡ true → defined_value values d ≡ leb j count) → stands_as (cond (eqb j 0) cell.True (cond (ltb (n + 1 - 1) j) cell.False cell.Inner)) goes_on (led_to definition (variable_of a)) a ≡ true → arm_value values a ≡ leb j count
 node-as values definition goes_on n count j a h few k =
     cond_both (eqb j 0) cell.True (cond (ltb (n + 1 - 1) j) cell.False cell.Inner) (λ c. stands_as c goes_on (led_to definition (variable_of a)) a ≡ true → arm_value values a ≡ leb j count)
-    (λ e s. true-arm values a s ∙ sym (leb-of j count (omega (arith, eqb-true _ _ e))))
+    (λ e s. true-arm values a s ∙ sym (le-leb j count (omega (arith, eqb-true _ _ e))))
     (λ e. cond_both (ltb (n + 1 - 1) j) cell.False cell.Inner (λ c. stands_as c goes_on (led_to definition (variable_of a)) a ≡ true → arm_value values a ≡ leb j count)
-    (λ f s. false-arm values a s ∙ sym (leb-not j count (omega (arith, ltb-true _ _ f))))
+    (λ f s. false-arm values a s ∙ sym (lt-leb j count (omega (arith, ltb-true _ _ f))))
     (λ f s. inner-as values definition goes_on (leb j count) a h (k (omega (arith, eqb-false _ _ e))) s))
 
 pub stands-count : (values : List Bool) (definition : ℕ → Option Definition) → KeepsTo values definition → (lits : List Literal) → Counts values lits (stands_for definition lits)

@@ -3,7 +3,7 @@
 use Rattle.std.proofs.Common.{◌≡◌, ℕ, ◌+◌, ◌-◌, ◌≤◌, ◌⊎◌, ◌++◌, ◌&&◌, Bool, true, false, not, eqb, ltb, leb, List, [], ◌∷◌, length, length-append, map, append_assoc, Option, None, Some, IfSome, Result, Ok, Err, IfOk, refl, sym, ap, ◌∙◌, subst, inl, inr, arith}
 use Rattle.std.specs.List.{AllByRecursion, slice_get}
 use Rattle.std.specs.Option.{is_none, option_and_then, option_map}
-use Rattle.std.proofs.lemmas.Bool.{cond_both, or_from, and_parts, ltb-true, leb-true}
+use Rattle.std.proofs.lemmas.Bool.{cond_both, or_from, and_parts, ltb-true, leb-true, not-false, le-leb}
 use Rattle.std.proofs.lemmas.Result.{IfOk-weaker}
 use Rattle.std.proofs.lemmas.List.{append-nil}
 use Rattle.kn_logic.proofs.Public.{All-at, All-push, All-append, at-push, true-negated}
@@ -31,7 +31,7 @@ use Rattle.kn_rules.proofs.Nodes.{defined_value, KeepsTo, stands-count}
 use Rattle.kn_rules.specs.States.{IsDefinedWithin}
 use Rattle.kn_rules.proofs.Extending.{live-more, defined-more, value-more, holds-more, defined_value-more}
 use Rattle.kn_rules.proofs.Defining.{by_definition-all, definition-holds, definition-within}
-use Rattle.kn_rules.proofs.Units.{false-not, true-leb, known-variable, defined-known, last-value, unit-true, unit-holds, enough}
+use Rattle.kn_rules.proofs.Units.{known-variable, defined-known, last-value, unit-true, unit-holds, enough}
 use Rattle.kn_rules.proofs.Truth.{AreTrue, GoesOn, run-goes_on}
 
 -- what an id stands for holds, unless it is deleted
@@ -173,8 +173,8 @@ unit-agrees values s bound lits root (Some unit) h w k =
     (λ _. cond_both (not (is_root (definition_of s) lits bound root)) _ _ (λ r. IfOk r (Agrees values)) (λ _. tt)
     (λ e. cond_both (not (is_unit unit root)) _ _ (λ r. IfOk r (Agrees values)) (λ _. tt)
     (λ f.
-    let value : value_of values root ≡ true = unit-true values unit root (false-not _ f) k in
-    let counts = root-counts values s bound lits root h (false-not _ e) in
+    let value : value_of values root ≡ true = unit-true values unit root (not-false _ f) k in
+    let counts = root-counts values s bound lits root h (not-false _ e) in
     one-agrees values s origin.Klause (klause bound lits) h (inl (leb-true _ _ (sym counts ∙ value))) (record { guard = tt; lits = w }))))
 
 count-agrees : (values : List Bool) (s : ProofState) (bound : ℕ) (lits : List Literal) (root unit : ℕ) → Agrees values s → IfOk (count s bound lits root unit) (Agrees values)
@@ -191,9 +191,9 @@ klause-agrees values s root (Some c) h w k =
     cond_both (not (is_none c.guard && are_different c.lits)) _ _ (λ r. IfOk r (Agrees values)) (λ _. tt)
     (λ d. cond_both (not (is_root (definition_of s) c.lits c.bound root)) _ _ (λ r. IfOk r (Agrees values)) (λ _. tt)
     (λ e.
-    let free = and_parts (is_none c.guard) (are_different c.lits) (false-not _ d) in
-    let counts = root-counts values s c.bound c.lits root h (false-not _ e) in
-    let value : value_of values root ≡ true = counts ∙ true-leb _ _ (enough values c.guard c.bound c.lits free.0 k) in
+    let free = and_parts (is_none c.guard) (are_different c.lits) (not-false _ d) in
+    let counts = root-counts values s c.bound c.lits root h (not-false _ e) in
+    let value : value_of values root ≡ true = counts ∙ le-leb _ _ (enough values c.guard c.bound c.lits free.0 k) in
     one-agrees values s origin.Unfolding (unit_of root) h (unit-holds values root value) (record { guard = tt; lits = (w, tt) })))
 
 unfold-agrees : (values : List Bool) (s : ProofState) (id root : ℕ) → Agrees values s → IfOk (unfold_klause s id root) (Agrees values)

@@ -1,5 +1,5 @@
 -- What a unit clause, a klause and a definition that are tested are known to be.
-use Rattle.std.proofs.Common.{◌≡◌, ℕ, ◌+◌, ◌-◌, ◌≤◌, ◌⊎◌, ◌++◌, ◌&&◌, ◌==◌, Bool, true, false, not, cond, leb, List, [], ◌∷◌, length, Option, None, Some, refl, sym, ◌∙◌, subst, inl, inr, arith}
+use Rattle.std.proofs.Common.{◌≡◌, ℕ, ◌+◌, ◌-◌, ◌≤◌, ◌⊎◌, ◌++◌, ◌&&◌, ◌==◌, Bool, true, false, cond, leb, List, [], ◌∷◌, length, Option, None, Some, refl, sym, ◌∙◌, subst, inl, inr, arith}
 use Rattle.std.specs.Option.{is_none}
 use Rattle.std.proofs.lemmas.Bool.{and_parts, leb-true, eqb-true}
 use Rattle.std.proofs.Math.Seq.{get_or-append_seam}
@@ -11,13 +11,6 @@ use Rattle.kn_lines.specs.declared.line.Arm.{Arm}
 use Rattle.kn_lines.specs.declared.line.Arm.TheVariants as arm
 use Rattle.kn_rules.specs.Steps.{is_known_variable, is_known_arm, is_unit_list, is_unit, unit_of}
 use Rattle.kn_rules.specs.States.{IsArmWithin, IsDefinedWithin}
-
-pub false-not : (b : Bool) → not b ≡ false → b ≡ true
-false-not true e = refl
-false-not false e = absurd cc
-
-pub true-leb : (a b : ℕ) → a ≤ b → leb a b ≡ true
-true-leb a b h = grind arith
 
 -- known variables
 pub known-variable : (vars variable : ℕ) → is_known_variable vars variable ≡ true → (1 ≤ variable) × (variable ≤ vars)

@@ -64,7 +64,7 @@ IsSlotOf count (Deleted o) = Unit {0}
 abbrev pub derived : ℕ → List Slot
 derived number = Derived High number ∷ Derived Low number ∷ Derived NotHigh number ∷ Derived NotLow number ∷ []
 
--- the ids are deleted, or one of them was not live when its turn came, or memory was wanting
+-- the ids are deleted, or one of them was not live when its turn came, or memory was short
 abbrev pub Deletes : {E : Type 0} → Result Bool E → Result (List Given) ℕ → Entered → Entered → Type 0
 Deletes (Ok true) after old new = (after ≡ Ok new.given) × (new.defined ≡ old.defined)
 Deletes (Ok false) after old new = (after ≡ Err not_live) × (new ≡ old)

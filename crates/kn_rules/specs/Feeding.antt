@@ -4,7 +4,7 @@ use Rattle.kn_rules.specs.declared.checker.FeedError.{FeedError}
 use Rattle.kn_rules.specs.declared.checker.FeedError.TheVariants.{Wrong, Memory}
 use Rattle.kn_rules.specs.States.{ProofState}
 
--- a line is refused with its cause, or memory was wanting; the state is as before
+-- a line is refused with its cause, or memory was short; the state is as before
 abbrev pub Refuses : FeedError → Result ProofState ℕ → ProofState → ProofState → Type 0
 Refuses (Wrong why) step old new = (step ≡ Err why) × (new ≡ old)
 Refuses Memory step old new = new ≡ old

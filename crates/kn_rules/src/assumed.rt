@@ -112,7 +112,7 @@ impl Assumed {
         self.marks.len() as u64
     }
 
-    /// Adds a literal at the end. Fails where memory is wanting, and the list is as before then.
+    /// Adds a literal at the end. Fails where memory is short, and the list is as before then.
     pub fn push(&mut self, lit: Lit) -> Result<(), NoMemory>
         requires { IsKnown self.old.vars lit }
         ensures ok { OnOk result (self.new ≡ record self.old { lits = self.old.lits ++ lit ∷ [] }) }
@@ -124,7 +124,7 @@ impl Assumed {
     }
 
     /// Adds those of the literals at the end whose negation does not stand in the list as it is before.
-    /// Fails where memory is wanting, and the list is as before then.
+    /// Fails where memory is short, and the list is as before then.
     pub fn push_open(&mut self, lits: &[Lit]) -> Result<(), NoMemory>
         requires { AreKnown self.old.vars lits.now }
         ensures ok { OnOk result (self.new ≡ record self.old { lits = self.old.lits ++ filter (is_open self.old.lits) lits.now }) }
@@ -157,7 +157,7 @@ impl Assumed {
         self.lits.clear();
     }
 
-    /// One variable more, behind the others. Fails where memory is wanting, and nothing changes then.
+    /// One variable more, behind the others. Fails where memory is short, and nothing changes then.
     pub fn grow(&mut self) -> Result<(), NoMemory>
         ensures ok { OnOk result (self.new ≡ record self.old { vars = self.old.vars + 1 }) }
         ensures err { OnErr result (self.new ≡ self.old) }
@@ -229,7 +229,7 @@ fn unmark_all(marks: &mut [Mark], lits: &[Lit])
     }
 }
 
-/// Adds those of the literals whose negation is not marked. Where memory is wanting nothing is added.
+/// Adds those of the literals whose negation is not marked. Where memory is short nothing is added.
 fn append_unopposed(out: &mut Vec<Lit>, marks: &[Mark], lits: &[Lit]) -> Result<(), NoMemory>
     requires { AreKnown (length marks.now) lits.now }
     ensures ok { OnOk result (out.new.items ≡ out.old.items ++ filter (is_unopposed marks.now) lits.now) }

@@ -31,13 +31,19 @@ pub enum FeedError {
 impl fmt::Display for FeedError {
     fn fmt<W: fmt::Write>(&self, f: &mut fmt::Formatter<W>) -> fmt::Result {
         match self {
-            FeedError::Wrong(1) => write!(f, "a header behind the first line"),
-            FeedError::Wrong(3) => write!(f, "an unknown variable"),
-            FeedError::Wrong(4) => write!(f, "an id that is not live"),
-            FeedError::Wrong(5) => write!(f, "hints without a conflict"),
-            FeedError::Wrong(6) => write!(f, "a unit clause that is not the root's"),
-            FeedError::Wrong(7) => write!(f, "a root that does not stand for the grid"),
-            FeedError::Wrong(8) => {
+            FeedError::Wrong(cause::WRONG_HEADER) => write!(f, "a header behind the first line"),
+            FeedError::Wrong(cause::UNKNOWN_VARIABLE) => write!(f, "an unknown variable"),
+            FeedError::Wrong(cause::NOT_LIVE) => write!(f, "an id that is not live"),
+            FeedError::Wrong(cause::NO_CONFLICT) => write!(f, "hints without a conflict"),
+            FeedError::Wrong(cause::WRONG_UNIT) => write!(
+                f,
+                "a unit clause that is not the root's"
+            ),
+            FeedError::Wrong(cause::WRONG_ROOT) => write!(
+                f,
+                "a root that does not stand for the grid"
+            ),
+            FeedError::Wrong(cause::NOT_PLAIN) => {
                 write!(
                     f,
                     "a klause that names a variable twice, or an unfolded one with a guard"
@@ -103,7 +109,7 @@ impl Checker {
     }
 
     /// Takes the next line. `Wrong` tells the first cause for which the line does not step; then, and
-    /// where memory is wanting, the state is as before.
+    /// where memory is short, the state is as before.
     pub fn feed(&mut self, line: &Line) -> Result<(), FeedError>
         requires { IsWellFormed line.now }
         ensures { Feeds result (step self.old line.now) self.old self.new }
@@ -115,7 +121,7 @@ impl Checker {
     }
 
     /// Takes a line that is known to step, and tests nothing again: no hint is run and no id is looked up
-    /// before. It fails only where memory is wanting, and the state is as before then.
+    /// before. It fails only where memory is short, and the state is as before then.
     pub fn accept(&mut self, line: Line) -> Result<(), NoMemory>
         requires formed { IsWellFormed line }
         requires steps { IsOk (step self.old line) }

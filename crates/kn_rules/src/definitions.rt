@@ -80,7 +80,7 @@ impl Definitions {
         }
     }
 
-    /// Defines the next variable. Fails where memory is wanting, and nothing is defined then.
+    /// Defines the next variable. Fails where memory is short, and nothing is defined then.
     pub fn push(&mut self, d: &Definition) -> Result<(), NoMemory>
         ensures ok { OnOk result (self.new ≡ record self.old { list = self.old.list ++ d.now ∷ [] }) }
         ensures err { OnErr result (self.new ≡ self.old) }

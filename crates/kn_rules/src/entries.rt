@@ -93,7 +93,7 @@ impl Entries {
         }
     }
 
-    /// Gives the next id to a constraint. Fails where memory is wanting, and nothing changes then.
+    /// Gives the next id to a constraint. Fails where memory is short, and nothing changes then.
     pub fn push(&mut self, origin: Origin, c: Constraint) -> Result<(), NoMemory>
         ensures ok { OnOk result (self.new ≡ record self.old { given = self.old.given ++ (record { origin = origin; live = Some c }) ∷ [] }) }
         ensures err { OnErr result (self.new ≡ self.old) }

@@ -60,7 +60,7 @@ impl Machine {
     }
 
     /// Takes the next line. `Wrong` tells the first cause for which the line does not step; then, and
-    /// where memory is wanting, the state is as before. A copy is kept, which takes no more memory than it needs: the
+    /// where memory is short, the state is as before. A copy is kept, which takes no more memory than it needs: the
     /// lists of a line that was read have room for more.
     pub fn feed(&mut self, line: &Line) -> Result<(), FeedError>
         requires { IsWellFormed line.now }
@@ -78,7 +78,7 @@ impl Machine {
     }
 
     /// Takes a line that is known to step, and tests nothing again: no hint is run and no id is looked up
-    /// before. It fails only where memory is wanting, and the state is as before then.
+    /// before. It fails only where memory is short, and the state is as before then.
     pub fn accept(&mut self, line: Line) -> Result<(), NoMemory>
         requires formed { IsWellFormed line }
         requires steps { IsOk (step self.old line) }
@@ -207,7 +207,7 @@ impl Machine {
         ensures err { OnErr result (self.new ≡ self.old) }
     {
         let variable = self.entries.definitions().next();
-        // one variable more stays assumable where memory is wanting below, which no line can see
+        // one variable more stays assumable where memory is short below, which no line can see
         self.assumed.grow()?;
         self.entries.define(&Definition { test: x, high, low })?;
         self.vars = variable;

@@ -24,7 +24,7 @@ pub enum Checked {
     NotVerified { line: u64, why: u8 },
 }
 
-/// Checks the text of a proof for the formula. It fails only where memory is wanting.
+/// Checks the text of a proof for the formula. It fails only where memory is short.
 pub fn check(alloc: Global, f: &Formula, bytes: &[u8]) -> Result<Checked, NoMemory>
     requires { f.now.vars ≤ 2 ^ 32 }
     ensures verified { IfOk result (λ checked. IfVerified checked (IsProof f.now bytes.now)) }

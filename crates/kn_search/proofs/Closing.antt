@@ -43,7 +43,7 @@ known-still vars forget n k old new w u now (lines, part, adds) same le = omega 
 pub whole-still : (vars forget deletions n k : ℕ) (old new : Logged) (w u : Option (List ℕ)) → LogsPart vars forget deletions n k old new w u → new.failed ≡ false
 whole-still vars forget deletions n k old new w u (lines, part, adds) = adds.whole
 
--- memory was wanting behind what was logged
+-- memory was short behind what was logged
 pub ends-short : (engine : Engined) (options : Options) (n k : ℕ) (old new : Logged) (w u : Option (List ℕ)) → n ≤ options.conflicts → LogsPart engine.trail.vars options.forget 0 n k old new w u → EndsNot engine options old new w u failure.Memory
 ends-short engine options n k old new w u le (lines, part, adds) = (lines, (part.searches, omega (arith, part.learned_, le)), adds)
 

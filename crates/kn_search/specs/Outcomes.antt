@@ -42,7 +42,7 @@ pub record Ends (engine : Engined) (options : Options) (old new : Logged) (w w' 
   pub tells : Tells engine options.conflicts (learned_in lines) new.state outcome
 
 -- A search ended with an error: the lines that it logged are such as a search may log, no more of them than the budget
--- are learned clauses, and all but the last were written whole; that one too where memory was wanting.
+-- are learned clauses, and all but the last were written whole; that one too where memory was short.
 abbrev pub EndsNot : Engined → Options → Logged → Logged → Option (List ℕ) → Option (List ℕ) → SearchError → Type 0
 EndsNot engine options old new w w' Memory = AddsSuch (MayLog engine.trail.vars options.forget 0 options.conflicts old.state new.state) old new w w'
 EndsNot engine options old new w w' WriteFault = BreaksSuch (MayLog engine.trail.vars options.forget 0 options.conflicts old.state new.state) old new w w'

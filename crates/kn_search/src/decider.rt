@@ -9,8 +9,8 @@ use kn_logic::{Lit, NoMemory};
 use kn_watch::Trail;
 use std::alloc::{AllocError, Global};
 
-/// What a variable becomes more active by at first; from which increment on all activities are made smaller, and how often
-/// they are halved then.
+/// What a variable becomes more active by at first; from which increment on all activities are made smaller, and how
+/// often they are halved then.
 const FIRST_INCREMENT: u64 = 1 << 20;
 
 const LARGE_INCREMENT: u64 = 1 << 52;
@@ -20,8 +20,8 @@ const HALVINGS: u32 = 32;
 /// How many clauses a bound above 1 outweighs, for each of the bound, where a variable's first value is chosen.
 const KLAUSE_WEIGHT: i64 = 1 << 20;
 
-/// Chooses the literals that are assumed. Of its heap and its table nothing is promised, they serve to choose well: but a
-/// literal that is chosen has no value, and none is chosen only where each variable has a value.
+/// Chooses the literals that are assumed. Of its heap and its table nothing is promised, they serve to choose well: but
+/// a literal that is chosen has no value, and none is chosen only where each variable has a value.
 #[derive(Debug, Drop)]
 pub struct Decider {
     heap: Heap,

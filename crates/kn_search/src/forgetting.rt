@@ -1,4 +1,5 @@
-//! Forgetting: learned clauses are deleted in the log and taken out of the engine, so that the others are looked at sooner.
+//! Forgetting: learned clauses are deleted in the log and taken out of the engine, so that the others are looked at
+//! sooner.
 ghost use Rattle.std.specs.Prelude.{ℕ, List, [], ◌∷◌, ◌++◌, ◌≡◌, ◌≤◌, ◌<◌, ◌+◌, length, true, false, IfOk, IfErr, OnOk, IsErrOf};
 ghost use Rattle.std.specs.List.{AllByRecursion};
 ghost use Rattle.kn_bytes.specs.Outside.{Rose};

@@ -12,7 +12,8 @@ use kn_propagate::Engine;
 use kn_watch::Watched;
 use std::alloc::Global;
 
-/// The heuristics of a search and the tables of its analysis. Nothing that a search promises rests on what stands there.
+/// The heuristics of a search and the tables of its analysis. Nothing that a search promises rests on what stands
+/// there.
 #[derive(Drop)]
 pub struct Guide {
     pub decider: Decider,
@@ -21,7 +22,7 @@ pub struct Guide {
 }
 
 impl Guide {
-    /// For the constraints of an engine, which stand in the log. An error where memory is wanting.
+    /// For the constraints of an engine, which stand in the log. An error where memory is short.
     pub fn new<K: Watched>(
         alloc: Global,
         engine: &Engine<ClauseWatch, K>,

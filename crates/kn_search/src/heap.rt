@@ -17,7 +17,7 @@ pub struct Heap {
 }
 
 impl Heap {
-    /// No variable in it, with room for so many, none of them active. An error where memory is wanting.
+    /// No variable in it, with room for so many, none of them active. An error where memory is short.
     pub fn new(alloc: Global, vars: u64) -> Result<Heap, NoMemory> {
         let Some(count) = (vars as usize).checked_add(1) else {
             return Err(AllocError);

@@ -12,8 +12,8 @@ use kn_watch::Watched;
 use std::alloc::Global;
 
 /// An engine over the variables of a formula that has its constraints, each under its place and 1, as the proof of
-/// the formula gives them: clauses in the one kind, klauses with a guard or without in the other. It is at level 0, without a
-/// literal. An error where memory is wanting.
+/// the formula gives them: clauses in the one kind, klauses with a guard or without in the other. It is at level 0,
+/// without a literal. An error where memory is short.
 pub fn engine_of(alloc: Global, f: &Formula) -> Result<Engine<ClauseWatch, CardWatch>, NoMemory>
     ensures trail { IfOk result (λ e. e.trail ≡ record { vars = f.now.vars; level = 0; made = [] }) }
     ensures mirrors { IfOk result (λ e. Mirrors e.live (map from_file f.now.constraints)) }
@@ -28,8 +28,9 @@ pub fn engine_of(alloc: Global, f: &Formula) -> Result<Engine<ClauseWatch, CardW
     Ok(engine)
 }
 
-/// Adds a constraint to an engine at level 0, under a new id.
-fn load(
+/// Adds a constraint to an engine at level 0, under a new id: a clause in the one kind, a klause with a guard or
+/// without in the other. An error where memory is short.
+pub fn load(
     alloc: Global,
     engine: &mut Engine<ClauseWatch, CardWatch>,
     c: &Constraint,

@@ -3,7 +3,8 @@
 /// How many conflicts one term of the sequence stands for.
 const CONFLICTS: u64 = 64;
 
-/// Restarts after 64 conflicts for each term of the sequence of Luby, Sinclair and Zuckerman: 1, 1, 2, 1, 1, 2, 4, 1, 1, 2, ..
+/// Restarts after 64 conflicts for each term of the sequence of Luby, Sinclair and Zuckerman: 1, 1, 2, 1, 1, 2, 4, 1,
+/// 1, 2, ..
 #[derive(Clone, Copy, Debug)]
 pub struct Restarts {
     // the two numbers by which Knuth goes through the sequence; the second is the present term

@@ -8,3 +8,6 @@ mod solving;
 
 pub use laws::solver_proofs_learn_few;
 pub use solving::solve;
+
+#[cfg(test)]
+mod tests;

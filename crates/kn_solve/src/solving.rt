@@ -12,10 +12,10 @@ use kn_rebuild::rebuild;
 use kn_search::{Options, Outcome, SearchError, search};
 use std::alloc::Global;
 
-/// Has the formula of an extraction a model? The proof is written from its header on: the klauses in place of the clauses
-/// that hid them, then the search on what remains. A model is one of the formula that the extraction began with, and its
-/// auxiliary variables have the values of the rebuilding rule. An error where memory is short, or the sink counted a
-/// fault: the lines so far were written, all but the last of them whole.
+/// Has the formula of an extraction a model? The proof is written from its header on: the klauses in place of the
+/// clauses that hid them, then the search on what remains. A model is one of the formula that the extraction began
+/// with, and its auxiliary variables have the values of the rebuilding rule. An error where memory is short, or the
+/// sink counted a fault: the lines so far were written, all but the last of them whole.
 pub fn solve<S: Sink>(
     alloc: Global,
     e: &Extraction,

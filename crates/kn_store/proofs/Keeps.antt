@@ -99,7 +99,7 @@ kept-add vars live slots lists c id kept fits e =
           ∙ ap (λ z. ids_of (naming x z)) (sym push);
     }
 
--- memory is wanting, and the ids that came leave again
+-- memory is short, and the ids that came leave again
 pub kept-undone : (vars live : ℕ) (slots : List (Option Bounded)) (lists came : List (List ℕ)) (c : Bounded) (id k : ℕ) → IsKept vars live slots lists → IsWithin vars c → length slots < id
     → came ≡ changed (with_id id) lists (take k (named c)) → IsKept vars live slots (changed (without_id id) came (named c))
 kept-undone vars live slots lists came c id k kept within e is = record {

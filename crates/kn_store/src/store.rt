@@ -33,7 +33,7 @@ impl Model for Store {
 }
 
 impl Store {
-    /// No constraint yet over the variables from 1 to `vars`. An error where memory is wanting.
+    /// No constraint yet over the variables from 1 to `vars`. An error where memory is short.
     pub fn new(alloc: Global, vars: u64) -> Result<Store, NoMemory>
         ensures { IfOk result (λ s. s ≡ record { vars = vars; added = 0; live = [] }) }
     {

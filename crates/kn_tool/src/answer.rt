@@ -5,8 +5,8 @@ ghost use Rattle.kn_tool.specs.Answers.{status_of, answer_text, place_text, whic
 use kn_text::push_number;
 use std::alloc::{AllocError, Global};
 
-/// The line that says how the program is called. It names all commands that are planned: `minimise` and `assume` are answered by
-/// this line until they are built.
+/// The line that says how the program is called. It names all commands that are planned: `minimise` and `assume` are
+/// answered by this line until they are built.
 pub const USAGE: &[u8] =
     b"c usage: knf check F P | knf solve F P [--conflicts N] [--forget N] | knf extract F | knf convert F | knf work N | knf minimise F P [--conflicts N] | knf assume F P [--conflicts N] | knf trim F P\n";
 

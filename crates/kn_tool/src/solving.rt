@@ -18,8 +18,8 @@ use kn_search::{Options, Outcome, SearchError};
 use kn_solve::solve;
 use std::alloc::Global;
 
-/// The reply of `solve`: the formula is read and understood, and its hidden counts are taken out. Then it is solved; each
-/// line of the proof is written as it is made.
+/// The reply of `solve`: the formula is read and understood, and its hidden counts are taken out. Then it is solved;
+/// each line of the proof is written as it is made.
 pub fn solve_file<F: Source, P: Sink>(
     alloc: Global,
     formula: &mut F,

@@ -1,7 +1,7 @@
 -- The marked lines are a closed set, and the least one.
 use Rattle.std.proofs.Common.{◌≡◌, ℕ, zero, suc, ◌+◌, ◌-◌, ◌≤◌, inl, inr, ◌&&◌, ◌||◌, Bool, true, false, not, List, [], ◌∷◌, ◌++◌, replicate, length, refl, sym, ap, ◌∙◌, subst, arith}
 use Rattle.std.specs.List.{AllByRecursion, list_any}
-use Rattle.std.proofs.lemmas.Bool.{cases_lt}
+use Rattle.std.proofs.lemmas.Bool.{cases_lt, or_from, or_parts}
 use Rattle.kn_logic.specs.Formulas.{Problem}
 use Rattle.kn_lines.specs.declared.line.Line.{Line}
 use Rattle.kn_lines.specs.declared.line.Line.TheVariants.{Header, Define, Lemma, Learned, Klause, Unfold, Delete}
@@ -78,9 +78,6 @@ pub own-length : (none : Kept) (p : Place) (lines : List Line) → length (marke
 own-length none p [] = refl
 own-length none p (line ∷ lines) = ap suc (own-length none (behind p line) lines)
 
-or-nothing : (a b : Bool) → a ≡ false → b ≡ false → (a || b) ≡ false
-or-nothing a b e f = rw e f
-
 end-first : (p : Place) (line : Line) (need : Kept) → p.refuted ≡ false → is_end line ≡ true → is_needed p line need ≡ true
 end-first p line need e f = or-first (not p.refuted && is_end line) (is_any need.variables p.variables (variables_given line)) (is_any need.ids p.ids (ids_given line)) (rw (e, f) refl)
 
@@ -88,7 +85,7 @@ pub has-end : (none : Kept) (p : Place) (lines : List Line) → p.refuted ≡ fa
 has-end none p [] e f = absurd cc
 has-end none p (line ∷ lines) e f = (
   end-first p line (marked none (behind p line) lines).need e,
-  λ g. has-end none (behind p line) lines (or-nothing p.refuted (is_end line) e g) (drop-first (is_end line) (list_any is_end lines) g f),
+  λ g. has-end none (behind p line) lines (or_from p.refuted (is_end line) e g) (drop-first (is_end line) (list_any is_end lines) g f),
 )
   where
     drop-first : (a b : Bool) → a ≡ false → (a || b) ≡ true → b ≡ true
@@ -107,10 +104,6 @@ pub record IsLeastMade (kept : Kept) (made : Marked) (others : List Bool) : Type
 abbrev pub IsLeastHere : Kept → Kept → Place → List Line → List Bool → Type 0
 IsLeastHere none kept p lines others = IsLeastMade kept (marked none p lines) others
 
-off-both : (a b : Bool) → (a || b) ≡ false → (a ≡ false) × (b ≡ false)
-off-both true b e = absurd cc
-off-both false b e = (refl, e)
-
 on-both : (a b : Bool) → (not a && b) ≡ true → (a ≡ false) × (b ≡ true)
 on-both true b e = absurd cc
 on-both false b e = (refl, e)
@@ -127,7 +120,7 @@ least-here none kept p (line ∷ lines) (o ∷ others) k h l met end v i =
     let len : length others ≡ length lines = omega (arith, l) in
     turn (is_needed p line (marked none (behind p line) lines).need) refl
     (here kept.variables variables_given line lines o others p.variables v) (here kept.ids ids_given line lines o others p.ids i)
-    (least-here none kept (behind p line) lines others k.1 h len met.1 (λ e. let both = off-both p.refuted (is_end line) e in (end both.0).1 both.1) v' i')
+    (least-here none kept (behind p line) lines others k.1 h len met.1 (λ e. let both = or_parts p.refuted (is_end line) e in (end both.0).1 both.1) v' i')
   where
     must : HaveMark kept.variables p.variables (variables_given line) o → HaveMark kept.ids p.ids (ids_given line) o → IsLeastHere none kept (behind p line) lines others → is_needed p line (marked none (behind p line) lines).need ≡ true → o ≡ true
     must hv hi rest e = elim (or-any _ _ _ e) [

@@ -34,7 +34,7 @@ impl Numbers {
         })
     }
 
-    /// One number more, which is kept or not. Fails where memory is wanting, and nothing changes then.
+    /// One number more, which is kept or not. Fails where memory is short, and nothing changes then.
     pub fn push(&mut self, kept: bool) -> Result<(), NoMemory>
         ensures ok { OnOk result (self.new ≡ self.old ++ kept ∷ []) }
         ensures err { OnErr result (self.new ≡ self.old) }

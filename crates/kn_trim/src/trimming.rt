@@ -24,7 +24,7 @@ pub enum Trimmed {
 
 /// The needed lines of a proof for the formula, as a proof of their own: those that the first clause without
 /// literals rests on, each with its used hints alone, and with their variables and ids numbered anew. It fails
-/// only where memory is wanting.
+/// only where memory is short.
 ///
 /// The proof is checked once, and gone over three times after that, which costs as much as its text and the
 /// constraints of its hints.

@@ -18,7 +18,7 @@ use kn_quant::{Elimination, QuantError, eliminate};
 use std::alloc::{AllocError, Global};
 
 /// The verdict on a group with 3 to 128 border literals and at most 256 auxiliary variables: what its
-/// clauses say of its border. An error where memory is wanting.
+/// clauses say of its border. An error where memory is short.
 pub fn verdict(alloc: Global, group: &Group) -> Result<Verdict, NoMemory>
     requires border { (3 ≤ length group.now.border) × (length group.now.border ≤ 128) }
     requires aux { length group.now.aux ≤ 256 }

@@ -1,3 +1,5 @@
+//! Groups of at most 12 variables by their truth tables: most guesses are small, and a table is made in less time than
+//! a diagram.
 ghost use Rattle.std.specs.Prelude.{◌≡◌, ◌≤◌, ◌<◌, ◌+◌, ◌^◌, ℕ, length, map, IfOk};
 ghost use Rattle.std.specs.List.{AllByRecursion, range_with_len};
 ghost use Rattle.kn_logic.specs.Groups.{IsGroup};

@@ -1,13 +1,13 @@
 -- All that a constraint forces is made true, place by place.
-use Rattle.std.proofs.Common.{◌≡◌, ℕ, zero, suc, ◌+◌, ◌≤◌, ◌<◌, ◌⊎◌, ◌++◌, Bool, true, false, not, ◌&&◌, cond, eqb, List, [], ◌∷◌, Option, Some, None, length, refl, sym, ap, ◌∙◌, subst, inl, inr, arith}
-use Rattle.std.proofs.lemmas.Bool.{not_from_true, not-true, cases_eq, cases_lt, and_parts, and_from, and_cases, or_left, or_right, false_from_ne_true, eq-eqb}
+use Rattle.std.proofs.Common.{◌≡◌, ℕ, zero, suc, ◌+◌, ◌≤◌, ◌<◌, ◌⊎◌, ◌++◌, Bool, true, false, not, ◌&&◌, cond, List, [], ◌∷◌, Option, Some, None, length, refl, sym, ap, ◌∙◌, subst, inl, inr, arith}
+use Rattle.std.proofs.lemmas.Bool.{not_from_true, not-true, cases_eq, cases_lt, and_parts, and_cases, or_left, or_right, false_from_ne_true, not-false}
 use Rattle.std.proofs.lemmas.List.Folds.{list_any-append}
 use Rattle.kn_logic.specs.Constraints.{Bounded}
 use Rattle.kn_logic.specs.Literals.{Literal, negated, is_same, has}
 use Rattle.kn_logic.specs.Propagation.{is_open, open_places, IsConsistent}
 use Rattle.kn_watch.specs.Watches.{listed, unguarded, lit_at, true_in, is_unset, IsReleased, IsBinding, IsSatisfied, IsConflicting, IsForced, IsForcing}
 use Rattle.kn_watch.proofs.Within.{Within, open_within, consistent_at, negated_twice}
-use Rattle.kn_logic.proofs.Public.{places-le}
+use Rattle.kn_logic.proofs.Public.{places-le, same-refl}
 
 -- how far it is: just as many as the bound are left, and those before this place have a value; or too few are
 -- left; or the guard has no value yet and its place is to come; or the guard is false
@@ -20,25 +20,14 @@ pub data IsForcedTo (trail : List Literal) (c : Bounded) (place : ℕ) : Type 0 
 within_push : (trail : List Literal) (l : Literal) → Within trail (trail ++ l ∷ [])
 within_push trail l x h = list_any-append (is_same x) trail (l ∷ []) ∙ or_left _ _ h
 
-same_true : (p : Bool) → cond p p (not p) ≡ true
-same_true true = refl
-same_true false = refl
-
-same_self : (l : Literal) → is_same l l ≡ true
-same_self l = and_from (eqb l.variable l.variable) _ (eq-eqb l.variable l.variable refl) (same_true l.positive)
-
 has_push : (trail : List Literal) (l : Literal) → has (trail ++ l ∷ []) l ≡ true
-has_push trail l = list_any-append (is_same l) trail (l ∷ []) ∙ or_right (has trail l) _ (or_left (is_same l l) false (same_self l))
-
-not_false : (b : Bool) → not b ≡ false → b ≡ true
-not_false true e = refl
-not_false false e = absurd cc
+has_push trail l = list_any-append (is_same l) trail (l ∷ []) ∙ or_right (has trail l) _ (or_left (is_same l l) false (same-refl l))
 
 -- a literal with a value keeps it
 set_within : (small large : List Literal) (l : Literal) → Within small large → is_unset small l ≡ false → is_unset large l ≡ false
 set_within small large l w h = elim (and_cases (is_open small l) (not (has small l)) h) [
   | inl o ↦ false_from_ne_true _ (λ e. (let p = and_parts (is_open large l) (not (has large l)) e in let q = open_within small large l w p.0 in absurd cc))
-  | inr o ↦ false_from_ne_true _ (λ e. (let p = and_parts (is_open large l) (not (has large l)) e in let t = w l (not_false _ o) in let q = not-true _ p.1 in absurd cc))
+  | inr o ↦ false_from_ne_true _ (λ e. (let p = and_parts (is_open large l) (not (has large l)) e in let t = w l (not-false _ o) in let q = not-true _ p.1 in absurd cc))
 ]
 
 binding_within : (small large : List Literal) (guard : Option Literal) → Within small large → IsBinding small guard → IsBinding large guard

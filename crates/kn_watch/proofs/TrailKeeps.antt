@@ -1,14 +1,14 @@
 -- What a trail keeps, with one literal more.
 use Rattle.std.proofs.Common.{◌≡◌, ℕ, ◌+◌, ◌-◌, ◌≤◌, ◌<◌, ◌++◌, Bool, true, false, not, ◌&&◌, ◌||◌, cond, eqb, ltb, List, [], ◌∷◌, length, map, refl, sym, ap, ◌∙◌, subst, inl, inr, arith}
 use Rattle.std.specs.List.{AllByRecursion, list_any, IsDistinct}
-use Rattle.std.proofs.lemmas.Bool.{or_parts, or_from, or_cases, or_left, or_right, and_parts, and_from, not-true, not_from_false, cases_Bool, eqb-true, eqb-false, eq-eqb, ne_eqb, cases_eq}
+use Rattle.std.proofs.lemmas.Bool.{or_parts, or_from, or_cases, or_left, or_right, and_parts, not-true, not_from_false, cases_Bool, eqb-true, eqb-false, eq-eqb, ne_eqb, cases_eq}
 use Rattle.std.proofs.lemmas.List.{map-append}
 use Rattle.std.proofs.lemmas.List.Folds.{list_any-append}
 use Rattle.std.proofs.lemmas.Map.Steps.{length-le_from_distinct_below}
 use Rattle.kn_logic.specs.Literals.{Literal, negated, is_same, has, names, IsKnown, AreKnown, AreDifferent}
 use Rattle.kn_logic.specs.Propagation.{is_open, IsConsistent}
 use Rattle.kn_watch.specs.Watches.{is_unset}
-use Rattle.kn_logic.proofs.Public.{same_literal}
+use Rattle.kn_logic.proofs.Public.{same_literal, same-refl}
 use Rattle.kn_watch.specs.declared.trail.Made.{Made}
 use Rattle.kn_watch.specs.Trails.{Trailed, literals, below, IsRising, IsTrail}
 
@@ -138,16 +138,9 @@ not_in_rest xs x l n h = elim (cases_Bool (is_same (negated l) x)) [
       absurd cc)
 ]
 
-same_true : (p : Bool) → cond p p (not p) ≡ true
-same_true true = refl
-same_true false = refl
-
-same_self : (l : Literal) → is_same l l ≡ true
-same_self l = and_from (eqb l.variable l.variable) _ (eq-eqb l.variable l.variable refl) (same_true l.positive)
-
 open_in : (xs whole : List Literal) → ((l : Literal) → has xs l ≡ true → is_open whole l ≡ true) → AllByRecursion (λ l. is_open whole l ≡ true) xs
 open_in [] whole h = tt
-open_in (x ∷ xs) whole h = (h x (or_left (is_same x x) (has xs x) (same_self x)), open_in xs whole (λ l i. h l (or_right (is_same l x) (has xs l) i)))
+open_in (x ∷ xs) whole h = (h x (or_left (is_same x x) (has xs x) (same-refl x)), open_in xs whole (λ l i. h l (or_right (is_same l x) (has xs l) i)))
 
 apart_in : (xs : List Literal) (l : Literal) → AreDifferent xs → has xs l ≡ true → has xs (negated l) ≡ false
 apart_in [] l d h = refl

@@ -1,5 +1,5 @@
-//! Proofs that searches write, read back: each learned clause is new at its place, as plain counting over all lists of literals
-//! has it.
+//! Proofs that searches write, read back: each learned clause is new at its place, as plain counting over all lists of
+//! literals has it.
 use crate::Outcome;
 use crate::tests::small::{VALUATIONS, formula, has_model, is_closed, value};
 use crate::tests::{searched, sink};

@@ -1,7 +1,7 @@
 use Rattle.std.proofs.Common.{◌∙◌, ◌==◌, ◌&&◌, sym, ap, ap₂}
 use Rattle.std.proofs.Math.Bool.{beq}
+use Rattle.std.proofs.lemmas.Bool.{not-true, not-false}
 use Rattle.kn_guess.specs.Tables.{is_left}
-use Rattle.kn_guess.proofs.Elements.{not-true, not-false}
 use Rattle.kn_guess.proofs.Entered.{same-eq}
 use Rattle.kn_guess.proofs.Meets.{met-none, met-other, met-gone, met-same, place-none, place-some}
 use Rattle.kn_guess.proofs.meeting.is_met.Goals as goal

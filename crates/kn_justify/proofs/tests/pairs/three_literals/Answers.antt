@@ -1,6 +1,6 @@
 use Rattle.std.proofs.Common.{◌∷◌, [], refl}
 use Rattle.kn_justify.proofs.PairTestLemmas.{tested-distinct}
-use Rattle.kn_justify.proofs.pair_tests.three_literals.Goals as goal
+use Rattle.kn_justify.proofs.tests.pairs.three_literals.Goals as goal
 
 pub justified-requires-clause-different : goal.justified-requires-clause-different
 justified-requires-clause-different g c = tested-distinct (1 ∷ 2 ∷ 3 ∷ []) refl

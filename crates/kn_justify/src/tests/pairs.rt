@@ -1,27 +1,19 @@
-//! The lines of small pair groups, against texts that another program made.
-ghost use Rattle.std.specs.Prelude.{◌≡◌, ◌≤◌, ◌^◌, ◌++◌, ◌∷◌, [], true, false, length, nat_eq, take, IfOk, OnOk};
+//! The lines of small pair groups, against whole texts.
+ghost use Rattle.std.specs.Prelude.{◌≡◌, ◌≤◌, ◌^◌, ◌∷◌, [], true, false, nat_eq, IfOk};
 ghost use Rattle.std.specs.List.{IsDistinct};
-ghost use Rattle.kn_logic.specs.Literals.{Literal, IsKnown};
 ghost use Rattle.kn_logic.specs.Constraints.{clause};
-ghost use Rattle.kn_logic.specs.Groups.{IsGroup, IsPairGroup};
+ghost use Rattle.kn_logic.specs.Groups.{IsPairGroup};
 ghost use Rattle.kn_rules.specs.States.{start};
 ghost use Rattle.kn_justify.specs.Taken.{AreTaken};
 
+use super::{add, first_clauses, steps_to};
 use crate::justify_pairs;
 use kn_bytes::MemSink;
 use kn_log::{Log, LogError};
-use kn_logic::{Constraint, Formula, Group, Lit, NoMemory};
+use kn_logic::{Formula, Group, Lit, NoMemory};
+use kn_rules::check;
 use std::alloc::Global;
 use std::test::Fail;
-
-// Adds the clause of two literals.
-fn add(alloc: Global, f: &mut Formula, a: Lit, b: Lit) -> Result<(), NoMemory>
-    requires first { IsKnown f.old.vars a }
-    requires second { IsKnown f.old.vars b }
-    ensures { OnOk result (f.new ≡ record { vars = f.old.vars; constraints = f.old.constraints ++ clause (a ∷ b ∷ []) ∷ [] }) }
-{
-    f.push(Constraint::new(1, Vec::from_slice(alloc, &[a, b])?))
-}
 
 // At most one and at least two of three variables.
 fn three(alloc: Global) -> Result<Formula, NoMemory>
@@ -43,6 +35,29 @@ fn three(alloc: Global) -> Result<Formula, NoMemory>
     add(alloc, &mut f, Lit::new(1, true), Lit::new(2, true))?;
     add(alloc, &mut f, Lit::new(1, true), Lit::new(3, true))?;
     add(alloc, &mut f, Lit::new(2, true), Lit::new(3, true))?;
+    Ok(f)
+}
+
+// At most one of four variables.
+fn four(alloc: Global) -> Result<Formula, NoMemory>
+    ensures { IfOk result (λ f. f ≡ record {
+      vars = 4;
+      constraints =
+          clause (record { variable = 1; positive = false } ∷ record { variable = 2; positive = false } ∷ [])
+          ∷ clause (record { variable = 1; positive = false } ∷ record { variable = 3; positive = false } ∷ [])
+          ∷ clause (record { variable = 1; positive = false } ∷ record { variable = 4; positive = false } ∷ [])
+          ∷ clause (record { variable = 2; positive = false } ∷ record { variable = 3; positive = false } ∷ [])
+          ∷ clause (record { variable = 2; positive = false } ∷ record { variable = 4; positive = false } ∷ [])
+          ∷ clause (record { variable = 3; positive = false } ∷ record { variable = 4; positive = false } ∷ []) ∷ [];
+    }) }
+{
+    let mut f = Formula::new(alloc, 4);
+    add(alloc, &mut f, Lit::new(1, false), Lit::new(2, false))?;
+    add(alloc, &mut f, Lit::new(1, false), Lit::new(3, false))?;
+    add(alloc, &mut f, Lit::new(1, false), Lit::new(4, false))?;
+    add(alloc, &mut f, Lit::new(2, false), Lit::new(3, false))?;
+    add(alloc, &mut f, Lit::new(2, false), Lit::new(4, false))?;
+    add(alloc, &mut f, Lit::new(3, false), Lit::new(4, false))?;
     Ok(f)
 }
 
@@ -81,23 +96,6 @@ fn five(alloc: Global) -> Result<Formula, NoMemory>
     Ok(f)
 }
 
-// The group of the first clauses of a formula.
-fn first_clauses(alloc: Global, f: &Formula, size: usize, border: &[Lit]) -> Result<Group, NoMemory>
-    requires size { size ≤ length f.now.constraints }
-    requires group { IsGroup (record { aux = []; taken = take size f.now.constraints; border = border.now }) }
-    ensures { IfOk result (λ g. g ≡ record { aux = []; taken = take size f.now.constraints; border = border.now }) }
-{
-    let mut taken = Vec::new(alloc);
-    for place in 0..size {
-        let Some(c) = f.get(place) else {
-            unreachable!()
-        };
-        taken.push(c.copy()?)?;
-    }
-    let border = Vec::from_slice(alloc, border)?;
-    Ok(Group::new(Vec::new(alloc), taken, border))
-}
-
 // The id of the klause of a pair group, and the proof so far.
 fn justified(
     alloc: Global,
@@ -121,7 +119,7 @@ fn three_literals(rt: HostRuntime) -> Result<(), Fail> {
     let alloc = rt.alloc();
     let f = three(alloc)?;
     let border = [Lit::new(1, false), Lit::new(2, false), Lit::new(3, false)];
-    let group = first_clauses(alloc, &f, 3, &border)?;
+    let group = first_clauses(alloc, &f, 3, &[], &border)?;
     let Ok((id, proof)) = justified(alloc, &f, &group, &[1, 2, 3]) else {
         return Err("not justified".into());
     };
@@ -129,6 +127,29 @@ fn three_literals(rt: HostRuntime) -> Result<(), Fail> {
     let text =
         "p kpf 3 6\nd -3 T F\nd -2 T 4\nr 5 0 13 3 9 14 0\nd -2 4 F\nd -1 5 6\nr 7 0 15 22 1 2 9 18 23 0\nk 2 -1 -2 -3 0 7 24\nx 1 2 3 0\n";
     assert!(rt; proof.written() == text.as_bytes());
+    assert_eq!(rt; check(alloc, &f, proof.written())?, steps_to(9));
+    Ok(())
+}
+
+#[test]
+fn four_literals(rt: HostRuntime) -> Result<(), Fail> {
+    let alloc = rt.alloc();
+    let f = four(alloc)?;
+    let border = [
+        Lit::new(1, false),
+        Lit::new(2, false),
+        Lit::new(3, false),
+        Lit::new(4, false),
+    ];
+    let group = first_clauses(alloc, &f, 6, &[], &border)?;
+    let Ok((id, proof)) = justified(alloc, &f, &group, &[1, 2, 3, 4, 5, 6]) else {
+        return Err("not justified".into());
+    };
+    assert_eq!(rt; id, 34);
+    let text =
+        "p kpf 4 6\nd -4 T F\nd -3 T 5\nr 6 0 13 6 9 14 0\nd -3 5 F\nd -2 6 7\nr 8 0 15 22 4 5 9 18 23 0\nd -2 7 F\nd -1 8 9\nr 10 0 24 31 1 2 3 9 18 27 32 0\nk 3 -1 -2 -3 -4 0 10 33\nx 1 2 3 4 5 6 0\n";
+    assert!(rt; proof.written() == text.as_bytes());
+    assert_eq!(rt; check(alloc, &f, proof.written())?, steps_to(12));
     Ok(())
 }
 
@@ -143,7 +164,7 @@ fn five_literals(rt: HostRuntime) -> Result<(), Fail> {
         Lit::new(4, true),
         Lit::new(5, false),
     ];
-    let group = first_clauses(alloc, &f, 12, &border)?;
+    let group = first_clauses(alloc, &f, 12, &[], &border)?;
     let ids = [1, 2, 3, 4, 5, 6, 7, 8, 9, 10, 11, 12];
     let Ok((id, proof)) = justified(alloc, &f, &group, &ids) else {
         return Err("not justified".into());
@@ -152,5 +173,6 @@ fn five_literals(rt: HostRuntime) -> Result<(), Fail> {
     let text =
         "p kpf 5 12\nd -5 T F\nd 4 T 6\nr 7 0 19 11 15 20 0\nd 4 6 F\nd 3 7 8\nr 9 0 21 28 6 10 15 24 29 0\nd 3 8 F\nd -2 9 10\nr 11 0 30 37 7 3 9 15 24 33 38 0\nd -2 10 F\nd 1 11 12\nr 13 0 39 46 2 5 1 8 15 24 33 42 47 0\nk 4 1 -2 3 4 -5 0 13 48\nx 1 2 3 4 5 6 7 8 9 10 11 12 0\n";
     assert!(rt; proof.written() == text.as_bytes());
+    assert_eq!(rt; check(alloc, &f, proof.written())?, steps_to(15));
     Ok(())
 }

@@ -1,7 +1,7 @@
 use Rattle.std.proofs.Common.{◌∷◌, [], refl, subst, arith}
 use Rattle.kn_logic.specs.Groups.{IsGroup}
 use Rattle.kn_justify.proofs.PairTestLemmas.{tested-as, tested-distinct}
-use Rattle.kn_justify.proofs.pair_tests.five_literals.Goals as goal
+use Rattle.kn_justify.proofs.tests.pairs.five_literals.Goals as goal
 
 pub justified-requires-clause-pairs : goal.justified-requires-clause-pairs
 justified-requires-clause-pairs g c =
