@@ -45,6 +45,9 @@ def follow(name, pause):
 
 
 def main(arguments):
+    if arguments in (["-h"], ["--help"]):
+        print(__doc__)
+        return
     if not 1 <= len(arguments) <= 2:
         sys.exit("usage: watch.py P [SECONDS]")
     try:

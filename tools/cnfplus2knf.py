@@ -70,6 +70,9 @@ def read(source):
 
 
 def main(arguments):
+    if arguments in (["-h"], ["--help"]):
+        print(__doc__)
+        return 0
     if len(arguments) > 1:
         print("usage: cnfplus2knf.py [FILE]", file=sys.stderr)
         return 2

@@ -106,6 +106,9 @@ def of_proof(name, number, cause):
 
 
 def main(arguments):
+    if arguments in (["-h"], ["--help"]):
+        print(__doc__)
+        return 0
     if not 1 <= len(arguments) <= 2:
         print("usage: explain.py F [P] < the program's output", file=sys.stderr)
         return 2

@@ -1,4 +1,4 @@
-"""Calls the program `knf` as PySAT's solvers are called.
+"""Calls the program `knf` as PySAT's solvers are called. With this folder in `PYTHONPATH`:
 
     from knf import Solver
 
@@ -8,7 +8,7 @@
             print(solver.get_model())
 
 The program is the one that the environment variable `KNF` names, else `knf` of the search path, else the one that is built
-beside this file. Each call of `solve` is a new run."""
+in this repository. Each call of `solve` is a new run."""
 
 import os
 import shutil
@@ -25,7 +25,7 @@ WORDS = {
     3: "a file could not be read",
     4: "a file could not be written",
     5: "memory was short",
-    6: "the words of the command line are no text",
+    6: "a word of the command line is not UTF-8",
 }
 
 

@@ -121,6 +121,9 @@ def constraints(source):
 
 
 def main(arguments):
+    if arguments in (["-h"], ["--help"]):
+        print(__doc__)
+        return 0
     if len(arguments) > 1:
         print("usage: opb2knf.py [FILE]", file=sys.stderr)
         return 2

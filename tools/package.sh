@@ -5,6 +5,12 @@
 #     package.sh FOLDER [VERSION]     writes knf-VERSION.tar.gz and knf_VERSION_amd64.deb to FOLDER
 set -eu
 
+case ${1:-} in
+-h | --help)
+    sed -n '2,5s/^# *//p' "$0"
+    exit 0
+    ;;
+esac
 top=$(cd "$(dirname "$0")/.." && pwd)
 program=${KNF:-$top/crates/knf/out/knf}
 [ $# -ge 1 ] || { echo "usage: package.sh FOLDER [VERSION]" >&2; exit 2; }
@@ -19,7 +25,7 @@ install -D -m 755 "$program" "$root/usr/bin/knf"
 mkdir -p "$root/usr/share/man/man1" "$root/usr/share/doc/knf/docs" "$root/usr/share/knf"
 gzip -9nc "$top/docs/knf.1" > "$root/usr/share/man/man1/knf.1.gz"
 cp "$top/README.md" "$root/usr/share/doc/knf/"
-cp "$top/docs/FORMULAS.md" "$top/docs/PROOFS.md" "$top/docs/PROMISES.md" "$root/usr/share/doc/knf/docs/"
+cp "$top"/docs/*.md "$top"/docs/*.svg "$root/usr/share/doc/knf/docs/"
 cp -R "$top/examples" "$top/tools" "$root/usr/share/knf/"
 find "$root" -name __pycache__ -prune -exec rm -r {} +
 

@@ -7,7 +7,7 @@ use Rattle.kn_logic.specs.Literals.{Literal, is_same, has, names, places, AreDif
 use Rattle.kn_logic.specs.Constraints.{Bounded, is_clause, named, Fits}
 use Rattle.kn_logic.specs.Formulas.{IsFormula}
 use Rattle.kn_logic.specs.Groups.{Gathered, is_among, is_pair, is_binary, is_pair_of, has_pair, is_covered}
-use Rattle.kn_logic.proofs.Public.{same_literal, same-refl, All-has, has-right}
+use Rattle.kn_logic.proofs.Public.{same_literal, same-refl, All-has, has-right, has-names}
 use Rattle.kn_diagram.specs.Diagrams.{is_true_by}
 use Rattle.kn_quant.specs.Runs.{clause_function, AgreeBut, CanHold}
 use Rattle.kn_verdict.specs.Cardinals.{IsCardinal}
@@ -16,7 +16,7 @@ use Rattle.kn_store.proofs.Public.{all-one, all-two, rises}
 use Rattle.kn_guess.specs.Guesses.{joins, joined, candidates, pair_group, IsPairGuess}
 use Rattle.kn_extract.specs.Extractions.{Found, IsPairTaken}
 use Rattle.kn_extract.proofs.Steps.{IsStep, named_in, go}
-use Rattle.kn_extract.proofs.SeedSteps.{named-from, has-names, any-kept, any-some}
+use Rattle.kn_extract.proofs.SeedSteps.{named-from, any-kept, any-some}
 use Rattle.kn_extract.proofs.Lists.{filter-yes, filter-no, own-has, rises-different}
 
 -- what each literal of a list does to a count

@@ -3,11 +3,11 @@ use Rattle.std.proofs.Common.{◌≡◌, ℕ, ◌≤◌, Bool, true, false, not,
 use Rattle.std.specs.Prelude.{◌⊎◌}
 use Rattle.std.specs.List.{list_any, AllByRecursion}
 use Rattle.std.proofs.lemmas.Bool.{and_parts, or_cases, or_left, or_right, and_from, not-true}
-use Rattle.kn_logic.specs.Literals.{Literal, is_same, has, names, AreKnown, IsKnown}
+use Rattle.kn_logic.specs.Literals.{Literal, has, names, AreKnown, IsKnown}
 use Rattle.kn_logic.specs.Constraints.{Bounded, is_clause, named, Fits}
 use Rattle.kn_logic.specs.Formulas.{IsFormula}
 use Rattle.kn_logic.specs.Groups.{Gathered, is_among}
-use Rattle.kn_logic.proofs.Public.{All-has, same_literal}
+use Rattle.kn_logic.proofs.Public.{All-has, has-names}
 use Rattle.kn_store.specs.Stores.{Numbered, Stored, constraints_of, chosen, problem_of}
 use Rattle.kn_store.proofs.Public.{all-one, all-two, rises}
 use Rattle.kn_guess.specs.Guesses.{in_klause, in_binary, stands, is_seed, IsClosedFrom, IsLeastFrom, touches, IsBorder, IsSeedGuess}
@@ -73,9 +73,6 @@ named-from (c ∷ cs) f x h e = at (or_cases (f c) (list_any f cs) e) (λ k. nam
     at : (f c ≡ true) ⊎ (list_any f cs ≡ true) → (list_any f cs ≡ true → named_in cs x ≡ true) → named_in (c ∷ cs) x ≡ true
     at (inl k) more = or_left (names (named c) x) (named_in cs x) (h c k)
     at (inr k) more = or_right (names (named c) x) (named_in cs x) (more k)
-
-pub has-names : (lits : List Literal) (l : Literal) → has lits l ≡ true → names lits l.variable ≡ true
-has-names lits l e = let p = passes (is_same l) lits e in ap (λ m. names lits m.variable) (same_literal l p.0 p.1) ∙ p.2
 
 pub stands-named : (cs : List Bounded) (l : Literal) → stands cs l ≡ true → named_in cs l.variable ≡ true
 stands-named cs l e = named-from cs (λ c. has (named c) l) l.variable (λ c k. has-names (named c) l k) e

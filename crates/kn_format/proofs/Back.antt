@@ -6,7 +6,7 @@ use Rattle.std.proofs.lemmas.Slice.Eq.{bytes_eq-Decides}
 use Rattle.std.specs.Prelude.{Result, codes}
 use Rattle.std.specs.Str.{bytes_eq}
 use Rattle.std.specs.List.{AllByRecursion}
-use Rattle.kn_logic.proofs.Public.{known-append}
+use Rattle.kn_logic.proofs.Public.{known-append, different-push}
 use Rattle.kn_logic.specs.Literals.{Literal, IsKnown, AreDifferent, names}
 use Rattle.kn_logic.specs.Constraints.{Bounded, clause, klause, guarded_klause, named, is_clause, IsWithin, Fits}
 use Rattle.kn_text.specs.Numbers.{number_of, literal_of, is_end}
@@ -18,7 +18,7 @@ use Rattle.kn_format.specs.declared.place.Place.TheVariants.{Between, Guard, Bou
 use Rattle.kn_format.specs.Grammar.{highest_bound, ClauseThen, BoundThen, KlauseThen, GuardThen, ConstraintThen, SpellConstraints}
 use Rattle.kn_format.specs.Faults.{Reading, nothing, with_literal, with_bound, begin, empty_clause, first_word, guard, bound, within_clause, within_klause, after, after_words, ◌>>=◌, bad_token, variable_above_header, bound_too_large, repeated_variable, extra_constraint}
 use Rattle.kn_format.specs.Reading.{is_marked}
-use Rattle.kn_format.proofs.Begun.{different_more, named_more}
+use Rattle.kn_format.proofs.Begun.{named_more}
 use Rattle.kn_format.proofs.Steps.{reading}
 use Rattle.kn_format.proofs.Spelled.{Then, joined, Rest}
 
@@ -133,7 +133,7 @@ good_klause : (vars : ℕ) (begun : Bounded) (l : Literal) → Good vars Klause 
 good_klause vars begun l good k apart = record {
   within = record { guard = good.within.guard; lits = known-append vars begun.lits (l ∷ []) good.within.lits (k, tt) };
   clause = λ e. absurd cc;
-  different = λ e. rw named_more (different_more (named begun) l (good.different refl) apart);
+  different = λ e. rw named_more (different-push (named begun) l (good.different refl) apart);
 }
 
 in_klause : (word : List ℕ) (words : List (List ℕ)) (more : IsSpelled words) (format : Format) (count vars : ℕ) (done : List Bounded) (begun : Bounded) (next s : Reading) (o : Option Literal)

@@ -1,11 +1,10 @@
 -- What is kept of a klause where a literal joins it.
-use Rattle.std.proofs.Common.{is_eq, nat_cmp, ◌≡◌, ℕ, ◌==◌, Bool, true, false, ◌||◌, cond, not, List, [], ◌∷◌, ◌++◌, Option, refl, sym, ap, subst, ◌∙◌, append_assoc, arith}
+use Rattle.std.proofs.Common.{is_eq, nat_cmp, ◌≡◌, ℕ, ◌==◌, Bool, true, false, ◌||◌, cond, not, List, [], ◌∷◌, ◌++◌, Option, refl, sym, ap, subst, ◌∙◌, append_assoc}
 use Rattle.std.proofs.lemmas.List.Folds.{list_any-append}
 use Rattle.std.specs.Prelude.{option_to_list, nat_eq}
 use Rattle.std.specs.Cmp.{unsigned_tied}
-use Rattle.std.proofs.lemmas.Bool.{or_from}
-use Rattle.kn_logic.proofs.Public.{known-append}
-use Rattle.kn_logic.specs.Literals.{Literal, IsKnown, AreDifferent, names}
+use Rattle.kn_logic.proofs.Public.{known-append, different-push}
+use Rattle.kn_logic.specs.Literals.{Literal, IsKnown, names}
 use Rattle.kn_logic.specs.Constraints.{Bounded, named}
 use Rattle.kn_format.specs.declared.place.Place.{Place}
 use Rattle.kn_format.specs.declared.place.Place.TheVariants.{Klause}
@@ -15,9 +14,6 @@ use Rattle.kn_format.specs.Reading.{Keeps}
 pub names_append : (xs ys : List Literal) (v : ℕ) → names (xs ++ ys) v ≡ (names xs v || names ys v)
 names_append xs ys v = list_any-append (λ l. l.variable == v) xs ys
 
-same_apart : (l m : Literal) → (l.variable == m.variable) ≡ false → (m.variable == l.variable) ≡ false
-same_apart l m e = grind arith
-
 pub or_left : (b c : Bool) → (b || c) ≡ false → b ≡ false
 or_left false c e = refl
 or_left true c e = e
@@ -25,14 +21,6 @@ or_left true c e = e
 pub or_right : (b c : Bool) → (b || c) ≡ false → c ≡ false
 or_right false c e = e
 or_right true c e = absurd cc
-
-pub different_more : (xs : List Literal) (l : Literal) → AreDifferent xs → names xs l.variable ≡ false → AreDifferent (xs ++ l ∷ [])
-different_more [] l different apart = (refl, tt)
-different_more (x ∷ xs) l different apart =
-    let here : (l.variable == x.variable) ≡ false = same_apart x l (or_left (x.variable == l.variable) (names xs l.variable) apart) in (
-      names_append xs (l ∷ []) x.variable ∙ or_from (names xs x.variable) (names (l ∷ []) x.variable) different.0 (or_from (l.variable == x.variable) false here refl),
-      different_more xs l different.1 (or_right (x.variable == l.variable) (names xs l.variable) apart),
-    )
 
 pub named_more : (c : Bounded) (l : Literal) → named (with_literal c l) ≡ named c ++ l ∷ []
 named_more c l = sym (append_assoc (option_to_list c.guard) c.lits (l ∷ []))
@@ -51,7 +39,7 @@ keeps_literal : (vars : ℕ) (c : Bounded) (l : Literal) (old new : ℕ → Bool
 keeps_literal vars c l old new kept known apart joined = record {
   within = record { guard = kept.within.guard; lits = known-append vars c.lits (l ∷ []) kept.within.lits (known, tt) };
   clause = λ e. absurd cc;
-  different = λ e. rw named_more (different_more (named c) l (kept.different refl) apart);
+  different = λ e. rw named_more (different-push (named c) l (kept.different refl) apart);
   seen = λ e v.
       joined v ∙ ap (cond (nat_eq l.variable v) true) (kept.seen refl v) ∙ seen_more (nat_eq l.variable v) (names (named c) v)
       ∙ sym (names_append (named c) (l ∷ []) v) ∙ ap (λ xs. names xs v) (sym (named_more c l));

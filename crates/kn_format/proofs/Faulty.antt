@@ -12,7 +12,7 @@ use Rattle.kn_format.specs.declared.header.Header.{Header}
 use Rattle.kn_format.specs.declared.place.Place.{Place}
 use Rattle.kn_format.specs.declared.place.Place.TheVariants.{Between, Guard, Bound, Clause, Klause}
 use Rattle.kn_format.specs.Grammar.{BeginsTail, words_in}
-use Rattle.kn_format.specs.Faults.{Reading, nothing, start, is_full, end, at, after, after_words, ◌>>=◌, is_between, is_percent, is_done, ends, at_end, refusal, header_of, no_header, too_many_constraints, bad_token, extra_constraint, unended, missing_constraint, IsBadWord, IsBadEnd, IsFaultIn, IsFirstFault}
+use Rattle.kn_format.specs.Faults.{Reading, nothing, start, is_full, after, after_words, ◌>>=◌, is_between, is_percent, is_done, ends, at_end, refusal, header_of, no_header, too_many_constraints, bad_token, extra_constraint, unended, missing_constraint, IsBadWord, IsBadEnd, IsFaultIn, IsFirstFault}
 use Rattle.kn_format.specs.FirstFaults.{HasHeader, AreConstraints, CanGoOn, HasGuards, IsFirstWrong, EndWithin, AreTooFew}
 use Rattle.kn_format.proofs.Steps.{reading}
 use Rattle.kn_format.proofs.Spelled.{is_read}

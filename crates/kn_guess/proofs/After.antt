@@ -6,7 +6,7 @@ use Rattle.std.specs.List.{list_any, AllByRecursion}
 use Rattle.std.proofs.lemmas.Bool.{or_left, or_right, or_cases, or_parts, and_parts, eqb-true, eqb-false, ne_eqb, cases_lt, and_from, not-true}
 use Rattle.std.proofs.lemmas.List.{length-set, get_or-set_same, get_or-set_other, get_or_past}
 use Rattle.std.proofs.lemmas.List.Folds.{list_any-append}
-use Rattle.kn_logic.proofs.Public.{All-has}
+use Rattle.kn_logic.proofs.Public.{All-has, has-names}
 use Rattle.kn_logic.specs.Literals.{Literal, has, names, IsKnown, AreKnown}
 use Rattle.kn_logic.specs.Constraints.{Bounded, is_clause, klause, named, Fits}
 use Rattle.kn_logic.specs.Groups.{Gathered, is_among, is_binary, is_pair}
@@ -19,7 +19,7 @@ use Rattle.kn_guess.proofs.Elements.{any-with, each-any, any-map, any-filter}
 use Rattle.kn_guess.proofs.Lives.{clause-named}
 use Rattle.kn_guess.proofs.Bordered.{the-literal, touches-from, touched}
 use Rattle.kn_guess.proofs.Taken.{taken-same}
-use Rattle.kn_guess.proofs.Joined.{own-literal, has-name}
+use Rattle.kn_guess.proofs.Joined.{own-literal}
 use Rattle.kn_guess.proofs.Apart.{names-among}
 
 -- tests that agree on all elements
@@ -109,7 +109,7 @@ taking-is s seed g ids h = record {
         ap (λ z. stands z q.0) (h.taken ∙ taken-same (touches g.aux) s.live) ∙ any-filter (λ d. has (named d) q.0) (touches g.aux) cs
         ∙ some (λ d. has (named d) q.0 && touches g.aux d) (and_from (has (named c) q.0) (touches g.aux c) q.2 t) in
         let in-border = h.border.1 q.0 ∙ and_from (stands g.taken q.0) (not (is_among g.aux q.0.variable)) there (ap not (ap (is_among g.aux) q.1 ∙ off)) in
-        absurd (true≢false (sym (has-name g.border q.0 in-border) ∙ ap (names g.border) q.1 ∙ none))
+        absurd (true≢false (sym (has-names g.border q.0 in-border) ∙ ap (names g.border) q.1 ∙ none))
 
     apart-at : (x : ℕ) → is_among g.aux x ≡ true → (t : Bool) → names g.border x ≡ t → names g.border x ≡ false
     apart-at x i false e = e
@@ -238,14 +238,14 @@ seed-after s g bound x taking low = at (is_among g.aux x) refl (names g.border x
     or-false false = refl
 
     at : (t : Bool) → is_among g.aux x ≡ t → (u : Bool) → names g.border x ≡ u → is_seed ds x ≡ ((is_seed cs x && not u) && not t)
-    at true i u b = ap (λ t. not (in_klause ds x) && (in_binary ds x && (t && stands ds off))) (none-after s g bound x (λ c. has (named c) on) taking i (λ c e. has-name (named c) on e))
+    at true i u b = ap (λ t. not (in_klause ds x) && (in_binary ds x && (t && stands ds off))) (none-after s g bound x (λ c. has (named c) on) taking i (λ c e. has-names (named c) on e))
         ∙ last-false (not (in_klause ds x)) (in_binary ds x) (stands ds off) ∙ sym (and-false (is_seed cs x && not u))
     at false i true b = ap (λ t. not t && (in_binary ds x && (stands ds on && stands ds off))) (klause-after s g bound x taking low ∙ ap (λ t. in_klause cs x || t) b ∙ or-true (in_klause cs x))
         ∙ sym (and-true (is_seed cs x && false) ∙ and-false (is_seed cs x))
     at false i false b =
         ap₂ (λ k r. not k && r) (klause-after s g bound x taking low ∙ ap (λ t. in_klause cs x || t) b ∙ or-false (in_klause cs x))
         (ap₂ (λ d r. d && r) (any-after s g bound x (λ c. is_binary c && names c.lits x) taking i b (λ c e. binary-named c x e))
-        (ap₂ (λ p n. p && n) (any-after s g bound x (λ c. has (named c) on) taking i b (λ c e. has-name (named c) on e)) (any-after s g bound x (λ c. has (named c) off) taking i b (λ c e. has-name (named c) off e))))
+        (ap₂ (λ p n. p && n) (any-after s g bound x (λ c. has (named c) on) taking i b (λ c e. has-names (named c) on e)) (any-after s g bound x (λ c. has (named c) off) taking i b (λ c e. has-names (named c) off e))))
         ∙ sym (and-true (is_seed cs x && true) ∙ and-true (is_seed cs x))
 
 -- flags that were taken down

@@ -3,19 +3,19 @@ use Rattle.std.proofs.Common.{◌≡◌, ℕ, ◌≤◌, ◌<◌, ◌==◌, Bool
 use Rattle.std.specs.Prelude.{◌⊎◌}
 use Rattle.std.specs.List.{list_any, list_all, AllByRecursion}
 use Rattle.std.specs.List.Sorted.{IsStrictlyIncreasing}
-use Rattle.std.proofs.lemmas.Bool.{or_left, or_right, or_parts, or_cases, and_parts, eqb-false, ne_eqb, and_from, not-true}
+use Rattle.std.proofs.lemmas.Bool.{or_left, or_right, or_cases, and_parts, eqb-false, ne_eqb, and_from, not-true}
 use Rattle.std.proofs.lemmas.List.{length-map}
 use Rattle.kn_logic.specs.Literals.{Literal, is_same, has, names, AreDifferent, IsKnown, AreKnown}
 use Rattle.kn_logic.specs.Constraints.{Bounded, is_clause, Fits}
 use Rattle.kn_logic.specs.Groups.{Gathered, is_among, is_pair, is_binary, is_pair_of, has_pair, is_covered, IsGroup, IsPairGroup}
-use Rattle.kn_logic.proofs.Public.{same_literal, same-refl, has-push, All-push, All-has}
+use Rattle.kn_logic.proofs.Public.{same_literal, same-refl, has-push, All-push, All-has, has-names, different-push}
 use Rattle.kn_store.specs.Stores.{Numbered, Stored, IsStored, constraints_of, constraint_at, chosen}
 use Rattle.kn_store.proofs.Public.{all-one, all-pass, to-map, Rises, rises}
 use Rattle.kn_guess.specs.Guesses.{joins, joined, candidates, pair_group, IsPairGuess, IsNoPairGuess}
 use Rattle.kn_guess.specs.Pairing.{IsCoverOf}
 use Rattle.kn_guess.proofs.Apart.{apart-few, rising-apart, names-among}
 use Rattle.kn_guess.proofs.Elements.{any-with, each-any, any-map, any-filter}
-use Rattle.kn_guess.proofs.Joined.{own-literal, candidates-known, has-name}
+use Rattle.kn_guess.proofs.Joined.{own-literal, candidates-known}
 use Rattle.kn_guess.proofs.Entered.{either, no-self, found-all}
 
 abbrev pub Differ : Literal → Literal → Type 0
@@ -120,19 +120,9 @@ all-joined P cs group (l ∷ ls) a b = at (joins cs group l) (all-joined P cs (g
     at false on off = off
 
 -- no variable stands twice
-different-end : (xs : List Literal) (l : Literal) → AreDifferent xs → names xs l.variable ≡ false → AreDifferent (xs ++ l ∷ [])
-different-end [] l d e = (refl, tt)
-different-end (x ∷ xs) l d e =
-    let q = or_parts (x.variable == l.variable) (names xs l.variable) e in
-    (no-name xs x.variable d.0 (ne_eqb l.variable x.variable (λ s. eqb-false x.variable l.variable q.0 (sym s))), different-end xs l d.1 q.1)
-  where
-    no-name : (ys : List Literal) (v : ℕ) → names ys v ≡ false → (l.variable == v) ≡ false → names (ys ++ l ∷ []) v ≡ false
-    no-name [] v a b = ap (λ t. t || false) b
-    no-name (y ∷ ys) v a b = let q = or_parts (y.variable == v) (names ys v) a in ap₂ (λ s t. s || t) q.0 (no-name ys v q.1 b)
-
 pub different-joined : (cs : List Bounded) (group ls : List Literal) → AreDifferent group → AreDifferent (joined cs group ls)
 different-joined cs group ls d = keep-joined AreDifferent cs
-    (λ group l h e. different-end group l h (not-true (names group l.variable) (and_parts (not (names group l.variable)) (nat_lt (length group) 256 && list_all (has_pair cs l) group) e).0)) group ls d
+    (λ group l h e. different-push group l h (not-true (names group l.variable) (and_parts (not (names group l.variable)) (nat_lt (length group) 256 && list_all (has_pair cs l) group) e).0)) group ls d
 
 pub pair-different : (lits : List Literal) → is_pair lits ≡ true → AreDifferent lits
 pair-different lits p = let q = pair-lits lits p in subst AreDifferent (sym q.2) (turned q.0 q.1 q.3, (refl, tt))
@@ -147,8 +137,8 @@ one-literal (l ∷ lits) a b d i j e = at (or_cases (is_same a l) (has lits a) i
   where
     at : (is_same a l ≡ true) ⊎ (has lits a ≡ true) → (is_same b l ≡ true) ⊎ (has lits b ≡ true) → (has lits a ≡ true → has lits b ≡ true → a ≡ b) → a ≡ b
     at (inl s) (inl r) more = same_literal a l s ∙ sym (same_literal b l r)
-    at (inl s) (inr r) more = absurd (true≢false (sym (ap (names lits) (ap (λ z. z.variable) (sym (same_literal a l s)) ∙ e) ∙ has-name lits b r) ∙ d.0))
-    at (inr s) (inl r) more = absurd (true≢false (sym (ap (names lits) (ap (λ z. z.variable) (sym (same_literal b l r)) ∙ sym e) ∙ has-name lits a s) ∙ d.0))
+    at (inl s) (inr r) more = absurd (true≢false (sym (ap (names lits) (ap (λ z. z.variable) (sym (same_literal a l s)) ∙ e) ∙ has-names lits b r) ∙ d.0))
+    at (inr s) (inl r) more = absurd (true≢false (sym (ap (names lits) (ap (λ z. z.variable) (sym (same_literal b l r)) ∙ sym e) ∙ has-names lits a s) ∙ d.0))
     at (inr s) (inr r) more = more s r
 
 -- variables that rise
@@ -267,7 +257,7 @@ no-guess-few s start g ids none h =
     let few = none h.first h.there h.binary in
     let three = h.three in
     let members = all-one (λ l. has g.border l ≡ true) (λ l. is_among (map (λ m. m.variable) (pair_group s h.first)) l.variable ≡ true)
-    (λ l i. names-among (pair_group s h.first) l.variable ∙ has-name (pair_group s h.first) l (sym (h.members l) ∙ i)) g.border (own-literal g.border) in
+    (λ l i. names-among (pair_group s h.first) l.variable ∙ has-names (pair_group s h.first) l (sym (h.members l) ∙ i)) g.border (own-literal g.border) in
     let long = apart-few (map (λ m. m.variable) g.border) (map (λ m. m.variable) (pair_group s h.first)) (rising-apart (map (λ m. m.variable) g.border) (rises (map (λ m. m.variable) g.border) h.ascends))
     (to-map (λ m. m.variable) (λ v. is_among (map (λ m. m.variable) (pair_group s h.first)) v ≡ true) g.border members) in
     let a = length-map g.border (λ m. m.variable) in

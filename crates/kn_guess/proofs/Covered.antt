@@ -9,7 +9,7 @@ use Rattle.indexmap.specs.IndexSet.{insert_key}
 use Rattle.kn_logic.specs.Literals.{Literal, is_same, has, names, AreDifferent}
 use Rattle.kn_logic.specs.Constraints.{is_clause, named}
 use Rattle.kn_logic.specs.Groups.{is_among, is_pair, is_binary, is_covered}
-use Rattle.kn_logic.proofs.Public.{same_literal, same-refl, All-has}
+use Rattle.kn_logic.proofs.Public.{same_literal, same-refl, All-has, has-names}
 use Rattle.kn_store.specs.Stores.{Numbered, Stored, IsStored, ids_of, naming, chosen}
 use Rattle.kn_store.proofs.Public.{all-one, all-filter, IsOwn, own, rises}
 use Rattle.kn_guess.specs.Seen.{passes}
@@ -20,7 +20,7 @@ use Rattle.kn_guess.proofs.Rising.{numbers-one, rises-ids}
 use Rattle.kn_guess.proofs.Lives.{clause-named}
 use Rattle.kn_guess.proofs.Bordered.{the-literal, map-sided}
 use Rattle.kn_guess.proofs.Taken.{among-chosen}
-use Rattle.kn_guess.proofs.Joined.{own-literal, has-name}
+use Rattle.kn_guess.proofs.Joined.{own-literal}
 use Rattle.kn_guess.proofs.Clique.{Differ, pair-lits, one-literal}
 use Rattle.kn_guess.proofs.Apart.{apart-few, names-among, variables-apart}
 
@@ -106,7 +106,7 @@ lits-same group on vs lits d same is-on is l = ap (λ z. has z l) is ∙ bool-sa
 
     back : has group l ≡ true → has (map (sided on) vs) l ≡ true
     back e =
-        let i = same l.variable ∙ names-among group l.variable ∙ has-name group l e in
+        let i = same l.variable ∙ names-among group l.variable ∙ has-names group l e in
         let q = any-with (λ v. (f : ℕ → Bool) → f v ≡ true → list_any f vs ≡ true) (λ v. v == l.variable) vs (each-any vs) i in
         any-map (sided on) (is_same l) vs ∙ q.2 (λ v. is_same l (sided on v)) (ap (λ v. is_same l (sided on v)) (eqb-true q.0 l.variable q.1) ∙ ap (λ b. is_same l (the-literal l.variable b)) (sign l.positive refl) ∙ same-refl l)
       where
@@ -174,7 +174,7 @@ ids-covered s border skipped id stored = among-covered s border skipped border i
     found p some same cover l i j d =
         let binary = and_parts (is_binary p.constraint) (list_all (has border) p.constraint.lits) cover in
         let clause = and_parts (is_clause p.constraint) (is_pair p.constraint.lits) binary.0 in
-        let name : names (named p.constraint) l.variable ≡ true = ap (λ z. names z l.variable) (clause-named p.constraint clause.0) ∙ has-name p.constraint.lits l j in
+        let name : names (named p.constraint) l.variable ≡ true = ap (λ z. names z l.variable) (clause-named p.constraint clause.0) ∙ has-names p.constraint.lits l j in
         let there = some (λ r. (r.id == id) && (is_covered border r.constraint && names (named r.constraint) l.variable))
         (and_from (p.id == id) (is_covered border p.constraint && names (named p.constraint) l.variable) same (and_from (is_covered border p.constraint) (names (named p.constraint) l.variable) cover name)) in
         let q = any-with (λ m. (f : Literal → Bool) → f m ≡ true → list_any f border ≡ true) (is_same l) border (each-any border) i in

@@ -9,14 +9,14 @@ use Rattle.std.proofs.lemmas.List.{length-set, get_or-set_same, get_or-set_other
 use Rattle.kn_logic.specs.Literals.{Literal, is_same, has, names, IsKnown, AreKnown}
 use Rattle.kn_logic.specs.Constraints.{Bounded, is_clause, named, Fits}
 use Rattle.kn_logic.specs.Groups.{is_pair, is_binary, is_pair_of, has_pair}
-use Rattle.kn_logic.proofs.Public.{same_literal, same-refl, has-push, All-push, All-has, has-filtered}
+use Rattle.kn_logic.proofs.Public.{same_literal, same-refl, has-push, All-push, All-has, has-filtered, has-names}
 use Rattle.kn_store.specs.Stores.{Numbered, Stored, IsStored, constraints_of, ids_of, naming, constraint_at}
 use Rattle.kn_store.proofs.Public.{all-one, all-two, all-filter, from-map, to-map, IsOwn, Rises, increasing}
 use Rattle.kn_guess.specs.Tables.{Paired, PairTable, rank, row, lits_of, ranks, is_partner, is_left, IsPaired, IsPairTable}
 use Rattle.kn_guess.specs.Pairing.{ends, with_entry, other, other_of, entered, found_entered, all_entered}
 use Rattle.kn_guess.proofs.Elements.{bool-same, any-map, any-filter, any-alike}
 use Rattle.kn_guess.proofs.Lives.{IsLive, all-live, clause-named}
-use Rattle.kn_guess.proofs.Joined.{filter-all, has-name, cands, of-variable, cands-more, cands-known, rank-within}
+use Rattle.kn_guess.proofs.Joined.{filter-all, cands, of-variable, cands-more, cands-known, rank-within}
 
 -- the last entry
 pub ends-at : (l : Literal) (ps : List Paired) (p : Paired) → slice_get ps (length ps - 1) ≡ Some p → ends l ps ≡ is_same p.lit l
@@ -283,7 +283,7 @@ pair-named s l m =
         (λ e.
         let p = and_parts (is_binary c) (has c.lits l && has c.lits m) e in
         let clause = and_parts (is_clause c) (is_pair c.lits) p.0 in
-        and_from (is_pair_of l m c) (names (named c) l.variable) e (ap (λ z. names z l.variable) (clause-named c clause.0) ∙ has-name c.lits l (and_parts (has c.lits l) (has c.lits m) p.1).0))
+        and_from (is_pair_of l m c) (names (named c) l.variable) e (ap (λ z. names z l.variable) (clause-named c clause.0) ∙ has-names c.lits l (and_parts (has c.lits l) (has c.lits m) p.1).0))
 
 filter-end : (P : Literal → Bool) (ls : List Literal) (l : Literal) → filter P (ls ++ l ∷ []) ≡ filter P ls ++ cond (P l) (l ∷ []) []
 filter-end P [] l = refl

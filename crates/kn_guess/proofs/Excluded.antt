@@ -2,6 +2,7 @@
 use Rattle.std.proofs.Common.{◌≡◌, ℕ, ◌≤◌, ◌<◌, ◌==◌, Bool, true, false, not, ◌&&◌, ◌||◌, List, length, map, filter, refl, sym, ap, ap₂, subst, ◌∙◌, inl, inr, arith, true≢false}
 use Rattle.std.proofs.lemmas.Bool.{or_left, or_right, or_cases, and_parts, eqb-true, cases_lt}
 use Rattle.std.proofs.lemmas.List.{length-map}
+use Rattle.kn_logic.proofs.Public.{has-names}
 use Rattle.kn_logic.specs.Literals.{Literal, has, names, AreDifferent}
 use Rattle.kn_logic.specs.Constraints.{Bounded, named}
 use Rattle.kn_logic.specs.Groups.{Gathered, is_among}
@@ -15,7 +16,7 @@ use Rattle.kn_guess.proofs.Elements.{bool-same, any-with, any-alike, own-among}
 use Rattle.kn_guess.proofs.Rising.{numbers-one}
 use Rattle.kn_guess.proofs.Taken.{taken-same}
 use Rattle.kn_guess.proofs.Bordered.{the-literal}
-use Rattle.kn_guess.proofs.Joined.{filter-same, all-of, own-literal, has-name}
+use Rattle.kn_guess.proofs.Joined.{filter-same, all-of, own-literal}
 use Rattle.kn_guess.proofs.Clique.{rises-different, one-literal}
 use Rattle.kn_guess.proofs.Apart.{apart-few, names-among}
 
@@ -37,7 +38,7 @@ border-has : (taken : List Bounded) (set : List ℕ) (border : List Literal) →
 border-has taken set border b x = bool-same (names border x) (at_border taken set x) forth back
   where
     side : (t : Bool) → is_border taken set (the-literal x t) ≡ true → names border x ≡ true
-    side t e = has-name border (the-literal x t) (b.1 (the-literal x t) ∙ e)
+    side t e = has-names border (the-literal x t) (b.1 (the-literal x t) ∙ e)
 
     back : at_border taken set x ≡ true → names border x ≡ true
     back e = elim (or_cases (is_border taken set (the-literal x true)) (is_border taken set (the-literal x false)) e) [ inl s ↦ side true s | inr s ↦ side false s ]

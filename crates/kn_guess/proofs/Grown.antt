@@ -5,6 +5,7 @@ use Rattle.std.specs.List.{list_any, AllByRecursion}
 use Rattle.std.proofs.lemmas.Bool.{or_left, or_cases, and_parts, eqb-true, eqb-false, eq-eqb, cases_lt, lt-ltb, ltb-true, and_from, not-true}
 use Rattle.std.proofs.lemmas.Option.{slice_get_within, get_or_from_slice_get, slice_get-get_or}
 use Rattle.std.proofs.lemmas.List.{length-set, get_or-set_same, get_or-set_other, take-append-drop, take_all, take_more, take-append-le}
+use Rattle.kn_logic.proofs.Public.{has-names}
 use Rattle.kn_logic.specs.Literals.{has, names}
 use Rattle.kn_logic.specs.Constraints.{Bounded, named}
 use Rattle.kn_logic.specs.Groups.{is_among}
@@ -18,7 +19,6 @@ use Rattle.kn_guess.specs.Tables.{in_some, IsNear}
 use Rattle.kn_guess.proofs.Elements.{any-with, each-any, all-among, own-among, among-last, among-end}
 use Rattle.kn_guess.proofs.Gathers.{among-extends}
 use Rattle.kn_guess.proofs.Bordered.{the-literal}
-use Rattle.kn_guess.proofs.Joined.{has-name}
 use Rattle.kn_guess.proofs.After.{seed-alone}
 use Rattle.kn_guess.proofs.Walked.{set_of, near-more, near-less, near-stays}
 use Rattle.kn_guess.proofs.Built.{share-known}
@@ -177,7 +177,7 @@ seed-stands : (cs : List Bounded) (x : ℕ) → is_seed cs x ≡ true → in_som
 seed-stands cs x e =
     let on = (and_parts (stands cs (the-literal x true)) (stands cs (the-literal x false)) (and_parts (in_binary cs x) (stands cs (the-literal x true) && stands cs (the-literal x false)) (and_parts (not (in_klause cs x)) (in_binary cs x && (stands cs (the-literal x true) && stands cs (the-literal x false))) e).1).1).0 in
     let q = any-with (λ c. (f : Bounded → Bool) → f c ≡ true → list_any f cs ≡ true) (λ c. has (named c) (the-literal x true)) cs (each-any cs) on in
-    q.2 (λ c. names (named c) x) (has-name (named q.0) (the-literal x true) q.1)
+    q.2 (λ c. names (named c) x) (has-names (named q.0) (the-literal x true) q.1)
 
 pub started : (s : Stored) (start : ℕ) → 1 ≤ start → start ≤ s.vars → is_seed (constraints_of s.live) start ≡ true → IsGrown s start 0 (start ∷ [])
 started s start low high seed = record {

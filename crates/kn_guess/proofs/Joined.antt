@@ -4,11 +4,11 @@ use Rattle.std.proofs.Common.{◌≡◌, ℕ, suc, ◌+◌, ◌*◌, ◌≤◌, 
 use Rattle.std.specs.Prelude.{◌⊎◌, zero}
 use Rattle.std.specs.List.{list_any, list_all, flat_map, range_with_len, AllByRecursion}
 use Rattle.std.specs.List.Sorted.{IsStrictlyIncreasing}
-use Rattle.std.proofs.lemmas.Bool.{or_left, or_right, or_cases, and_parts, eqb-true, eqb-false, eq-eqb, ne_eqb, cond-true, cond-false, lt-ltb, ltb-true, and_from, not-true}
+use Rattle.std.proofs.lemmas.Bool.{or_left, or_right, or_cases, and_parts, eqb-true, eqb-false, ne_eqb, cond-true, cond-false, lt-ltb, ltb-true, and_from, not-true}
 use Rattle.kn_logic.specs.Literals.{Literal, is_same, has, names, IsKnown, AreKnown}
 use Rattle.kn_logic.specs.Constraints.{Bounded}
 use Rattle.kn_logic.specs.Groups.{is_pair, has_pair}
-use Rattle.kn_logic.proofs.Public.{same_literal, same-refl, All-push}
+use Rattle.kn_logic.proofs.Public.{same_literal, same-refl, All-push, has-names}
 use Rattle.kn_store.specs.Stores.{Numbered, Stored, constraints_of}
 use Rattle.kn_store.proofs.Public.{all-one, all-two, all-filter, all-pass, from-map, to-map, Rises, rises, increasing}
 use Rattle.kn_guess.specs.Guesses.{joins, joined, candidates}
@@ -46,11 +46,6 @@ rises-some test (p ∷ ps) h = at (test p) (rises-some test ps h.1)
 -- a literal of a list
 pub own-literal : (lits : List Literal) → AllByRecursion (λ l. has lits l ≡ true) lits
 own-literal lits = all-one (λ l. (f : Literal → Bool) → f l ≡ true → list_any f lits ≡ true) (λ l. has lits l ≡ true) (λ l h. h (is_same l) (same-refl l)) lits (each-any lits)
-
-pub has-name : (lits : List Literal) (l : Literal) → has lits l ≡ true → names lits l.variable ≡ true
-has-name lits l e =
-    let q = any-with (λ m. (f : Literal → Bool) → f m ≡ true → list_any f lits ≡ true) (is_same l) lits (each-any lits) e in
-    q.2 (λ m. m.variable == l.variable) (eq-eqb q.0.variable l.variable (ap (λ z. z.variable) (sym (same_literal l q.0 q.1))))
 
 pub has-end : (lits : List Literal) (l x : Literal) → has lits x ≡ true → has (lits ++ l ∷ []) x ≡ true
 has-end [] l x e = absurd (true≢false (sym e))
@@ -126,7 +121,7 @@ no-join cs l m group i e = at (l.variable == m.variable) refl e
     last true true c e = e
 
     at : (t : Bool) → (l.variable == m.variable) ≡ t → (not t && has_pair cs l m) ≡ false → joins cs group l ≡ false
-    at true s e = first (names group l.variable) (nat_lt (length group) 256 && list_all (has_pair cs l) group) (ap (names group) (eqb-true l.variable m.variable s) ∙ has-name group m i)
+    at true s e = first (names group l.variable) (nat_lt (length group) 256 && list_all (has_pair cs l) group) (ap (names group) (eqb-true l.variable m.variable s) ∙ has-names group m i)
     at false s e = last (not (names group l.variable)) (nat_lt (length group) 256) (list_all (has_pair cs l) group) (not-all cs l m group i e)
 
 pub joined-filter : (cs : List Bounded) (m : Literal) (group ls : List Literal) → has group m ≡ true → joined cs group ls ≡ joined cs group (filter (is_partner cs m) ls)

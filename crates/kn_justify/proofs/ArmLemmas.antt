@@ -1,12 +1,12 @@
 -- Runs of hints over arms: what is had stays, an arm with its opposite is a conflict, and clauses of arms settle them.
 use Rattle.std.proofs.Common.{◌≡◌, ℕ, ◌+◌, ◌⊎◌, ◌++◌, Bool, true, false, not, cond, eqb, ltb, List, [], ◌∷◌, Option, None, Some, refl, sym, ap, ◌∙◌, subst, inl, inr, arith}
-use Rattle.std.specs.List.{AllByRecursion, filter}
-use Rattle.std.proofs.lemmas.Bool.{or_cases, or_right, cond_both, eqb-true, not_from_false, not_from_true}
+use Rattle.std.specs.List.{filter}
+use Rattle.std.proofs.lemmas.Bool.{or_cases, cond_both, eqb-true, not_from_false, not_from_true}
 use Rattle.std.proofs.lemmas.List.{append-nil}
 use Rattle.kn_logic.specs.Literals.{Literal, negated, is_same, has, places}
 use Rattle.kn_logic.specs.Constraints.{Bounded, clause, klause}
 use Rattle.kn_logic.specs.Propagation.{is_open, open_places, after_bound, after_guard, after_parts, after_hint, IsConsistent}
-use Rattle.kn_logic.proofs.Public.{same_literal, not_twice, has-left, has-right, has-either, has-first, has-one, All-has}
+use Rattle.kn_logic.proofs.Public.{same_literal, has-left, has-right, has-either, has-first, has-one, All-has, All-from, negated_twice}
 use Rattle.kn_lines.specs.declared.line.Arm.{Arm}
 use Rattle.kn_lines.specs.declared.line.Arm.TheVariants as arm
 use Rattle.kn_rules.specs.Steps.{opposite, with_arm}
@@ -16,16 +16,6 @@ use Rattle.kn_justify.specs.Arms.{HasArm, Has, IsSound, run_on, AllRefuted, IsLe
 pub not_itself : (p : Bool) → p ≡ not p → ⊥
 not_itself true e = absurd cc
 not_itself false e = absurd cc
-
-with_sign : (v : ℕ) (p q : Bool) → p ≡ q → ◌≡◌ {A = Literal} (record { variable = v; positive = p }) (record { variable = v; positive = q })
-with_sign v p q e = cc
-
-pub negated_twice : (l : Literal) → negated (negated l) ≡ l
-negated_twice l = with_sign l.variable (not (not l.positive)) l.positive (not_twice l.positive)
-
-pub All-from : (P : Literal → Type 0) (lits : List Literal) → ((l : Literal) → has lits l ≡ true → P l) → AllByRecursion P lits
-All-from P [] h = tt
-All-from P (x ∷ lits) h = (h x (has-first x lits), All-from P lits (λ l e. h l (or_right (is_same l x) (has lits l) e)))
 
 -- arms
 pub opposite_twice : (a : Arm) → opposite (opposite a) ≡ a

@@ -2,7 +2,7 @@
 use Rattle.std.proofs.Common.{◌≡◌, ℕ, zero, suc, ◌+◌, ◌-◌, ◌≤◌, ◌<◌, ◌==◌, ◌||◌, ◌⊎◌, ◌↔◌, ◌++◌, inl, inr, Bool, true, false, not, if◌then◌else◌, cond, leb, List, [], ◌∷◌, length, map, reverse, nat_le, slice_index, get_or, Option, Some, None, Result, Ok, Err, refl, sym, ap, ◌∙◌, subst, arith, append_assoc, length-append}
 use Rattle.std.specs.List.{AllByRecursion, list_any}
 use Rattle.std.specs.Result.{IsOk}
-use Rattle.std.proofs.lemmas.Bool.{cases_Bool, cases_eq, cases_lt, cond-true, ne_eqb, eq-eqb, eqb-false, or_parts, and_from, and_parts, le-leb, lt-leb, true≢false}
+use Rattle.std.proofs.lemmas.Bool.{cases_Bool, cases_eq, cases_lt, cond-true, ne_eqb, eq-eqb, and_from, and_parts, le-leb, lt-leb, true≢false}
 use Rattle.std.proofs.lemmas.List.{length-reverse, get_or-reverse, get_or-append_right, get_or-map, length-map, reverse-append}
 use Rattle.std.proofs.lemmas.List.Folds.{list_any-append, list_any_at, list_any_none}
 use Rattle.std.proofs.lemmas.List.Kept.{AllPairs-from_increasing}
@@ -10,7 +10,7 @@ use Rattle.indexmap.proofs.ReorderLemmas.{map-reverse}
 use Rattle.kn_logic.specs.Literals.{Literal, negated, names, places, AreDifferent, IsKnown, AreKnown}
 use Rattle.kn_logic.specs.Constraints.{Bounded, clause, klause}
 use Rattle.kn_logic.specs.Groups.{Gathered, IsGroup, is_among}
-use Rattle.kn_logic.proofs.Public.{same-refl}
+use Rattle.kn_logic.proofs.Public.{same-refl, different-push}
 use Rattle.kn_lines.specs.declared.line.Arm.{Arm}
 use Rattle.kn_lines.specs.declared.line.Arm.TheVariants as arm
 use Rattle.kn_rules.specs.declared.given.Origin.TheVariants as origin
@@ -44,13 +44,6 @@ names-turned [] x = refl
 names-turned (l ∷ lits) x =
     ap (λ (xs : List Literal). names xs x) (turned l lits) ∙ list_any-append (λ k. k.variable == x) (reverse lits) (l ∷ [])
     ∙ ap (λ (b : Bool). b || ((l.variable == x) || false)) (names-turned lits x) ∙ or_turned (names lits x) (l.variable == x)
-
-different-push : (xs : List Literal) (l : Literal) → AreDifferent xs → names xs l.variable ≡ false → AreDifferent (xs ++ l ∷ [])
-different-push [] l h n = (refl, tt)
-different-push (x ∷ xs) l h n =
-    let parts = or_parts (x.variable == l.variable) (names xs l.variable) n in
-    let other : (l.variable == x.variable) ≡ false = ne_eqb l.variable x.variable (λ e. eqb-false x.variable l.variable parts.0 (sym e)) in
-    (list_any-append (λ k. k.variable == x.variable) xs (l ∷ []) ∙ (λ i. h.0 i || (other i || false)), different-push xs l h.1 parts.1)
 
 different-turned : (lits : List Literal) → AreDifferent lits → AreDifferent (reverse lits)
 different-turned [] h = tt

@@ -3,7 +3,7 @@ use Rattle.std.proofs.Common.{◌≡◌, ℕ, zero, suc, ◌+◌, ◌≤◌, ◌
 use Rattle.std.specs.Prelude.{option_to_list}
 use Rattle.std.proofs.lemmas.Bool.{or_left, or_right, cases_lt, and_parts, eqb-true, cond-false, ne_eqb}
 use Rattle.kn_logic.specs.Literals.{Literal, negated, is_same}
-use Rattle.kn_logic.proofs.Public.{same-refl}
+use Rattle.kn_logic.proofs.Public.{same-refl, negated_twice}
 use Rattle.kn_lines.specs.declared.line.Arm.{Arm}
 use Rattle.kn_lines.specs.declared.line.Arm.TheVariants as arm
 use Rattle.kn_rules.specs.declared.given.Given.{Given}
@@ -19,7 +19,6 @@ use Rattle.kn_justify.specs.declared.side.Side.TheVariants.{Both, Left, Right}
 use Rattle.kn_justify.specs.Arms.{Settled, is_trivial}
 use Rattle.kn_justify.specs.Names.{arm_at, HasName, pair_arms, high_met, low_met, IsNamedMet}
 use Rattle.kn_justify.specs.Lemmas.{lemma_of, alone, entry_with, seen, joined, IsJoined, AreJoined, IsOpen, IsClosed, depth_at, HasChildren}
-use Rattle.kn_justify.proofs.ArmLemmas.{negated_twice}
 use Rattle.kn_justify.proofs.HintLemmas.{trivial-settled}
 use Rattle.kn_justify.proofs.LookupLemmas.{lookup-holds}
 

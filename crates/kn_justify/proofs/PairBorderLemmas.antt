@@ -12,14 +12,13 @@ use Rattle.std.proofs.lemmas.Option.{same_Some}
 use Rattle.kn_logic.specs.Literals.{Literal, is_same, has, IsKnown, AreKnown, names, AreDifferent}
 use Rattle.kn_logic.specs.Constraints.{Bounded, clause, is_clause}
 use Rattle.kn_logic.specs.Groups.{Gathered, is_among, is_pair, is_binary, is_pair_of, has_pair, is_covered, IsPairGroup}
-use Rattle.kn_logic.proofs.Public.{same_literal, has-first, has-one, All-has, unnamed}
+use Rattle.kn_logic.proofs.Public.{same_literal, has-first, has-one, All-has, unnamed, All-from}
 use Rattle.kn_rules.specs.declared.given.Given.{Given}
 use Rattle.kn_rules.specs.States.{ProofState, live_at}
 use Rattle.kn_justify.specs.Closings.{AreLive}
 use Rattle.kn_justify.specs.Taken.{AreTaken}
 use Rattle.kn_justify.specs.PairIds.{id_of, smaller, larger, IsOver, IsNoted, IsNotedFor, AreNoted}
 use Rattle.kn_justify.specs.PairGroups.{IsPaired, ArePaired}
-use Rattle.kn_justify.proofs.ArmLemmas.{All-from}
 
 -- constraints that are live under ids
 pub taken-live : (given : List Given) (cs : List Bounded) (ids : List ℕ) → AreTaken given ids cs → AreLive given ids

@@ -1,12 +1,12 @@
 -- The klause of a pair group: its line steps once "all but one at most" is held of the border.
-use Rattle.std.proofs.Common.{◌≡◌, ℕ, ◌≤◌, ◌-◌, ◌&&◌, Bool, true, not, List, [], ◌∷◌, length, Option, None, Some, Result, Ok, Err, refl, sym, ap, ◌∙◌, subst, arith}
+use Rattle.std.proofs.Common.{◌≡◌, ℕ, ◌-◌, ◌&&◌, Bool, true, not, List, [], ◌∷◌, length, Option, None, Some, Result, Ok, Err, refl, sym, ap, ◌∙◌, subst}
 use Rattle.std.specs.List.{AllByRecursion}
 use Rattle.std.specs.Result.{IsOk, IfOk, OnOk}
 use Rattle.std.proofs.lemmas.Bool.{and_from, le-leb}
 use Rattle.kn_logic.specs.Literals.{Literal, AreKnown, AreDifferent}
 use Rattle.kn_logic.specs.Constraints.{Bounded, clause, klause}
 use Rattle.kn_logic.specs.Groups.{Gathered, IsPairGroup}
-use Rattle.kn_logic.proofs.Public.{same-refl}
+use Rattle.kn_logic.proofs.Public.{same-refl, are_known-more}
 use Rattle.kn_lines.specs.declared.line.Arm.TheVariants as arm
 use Rattle.kn_rules.specs.States.{ProofState, definition_of, live_at}
 use Rattle.kn_rules.specs.Grids.{stands_for, is_root}
@@ -30,10 +30,6 @@ all-known vars (l ∷ lits) h = and_from _ _ (and_from _ _ (le-leb 1 l.variable 
 all-different : (lits : List Literal) → AreDifferent lits → are_different lits ≡ true
 all-different [] h = refl
 all-different (l ∷ lits) h = and_from _ _ (ap not h.0) (all-different lits h.1)
-
-known-grows : (old new : ℕ) (lits : List Literal) → old ≤ new → AreKnown old lits → AreKnown new lits
-known-grows old new [] le h = tt
-known-grows old new (l ∷ lits) le h = (let known = h.0.1 in ((h.0.0, omega (arith, known, le)), known-grows old new lits le h.1))
 
 positive-is : (l : Literal) → l.positive ≡ true → l ≡ record { variable = l.variable; positive = true }
 positive-is l e = with-sign l.variable l.positive true e
@@ -64,7 +60,7 @@ klause-is g c lits border bound is eb el e = rw (is, eb, el, e) refl
 pub group-steps : (old s : ProofState) (g : Gathered) (c : Bounded) (held : Held) (lits : List Literal) (root : ℕ) → IsPairGroup g → Grown old s → AreKnown old.vars lits → lits ≡ g.border → IsAllButOne s lits (Some held) → c ≡ pair_klause g → root ≡ held.lit.variable → IsOk (count s c.bound c.lits root held.unit)
 group-steps old s g c held lits root p grown known is h ec er =
     subst (λ (x : Bounded). IsOk (count s x.bound x.lits root held.unit)) (sym ec)
-    (klause-steps s g.border held (length g.border - 1) root (known-grows old.vars s.vars g.border grown.vars (subst (AreKnown old.vars) is known)) (border-different g p)
+    (klause-steps s g.border held (length g.border - 1) root (are_known-more old.vars s.vars g.border grown.vars (subst (AreKnown old.vars) is known)) (border-different g p)
     (subst (λ (xs : List Literal). IsAllButOne s xs (Some held)) is h) refl er)
 
 pub live-grown : (old new : ProofState) (cs : List Bounded) (ids : List ℕ) → Grown old new → AreTaken old.given ids cs → AreLive new.given ids

@@ -2,7 +2,7 @@
 use Rattle.std.proofs.Common.{◌≡◌, ℕ, zero, suc, ◌+◌, ◌≤◌, ◌<◌, ◌++◌, ◌||◌, Bool, true, false, not, eqb, List, [], ◌∷◌, length, Option, None, Some, refl, sym, ap, ◌∙◌, subst, arith, append_assoc}
 use Rattle.std.proofs.lemmas.Bool.{cond-true, cond-false, eqb-true, eq-eqb, ne_eqb, or_left, or_right, and_from, le-leb}
 use Rattle.kn_logic.specs.Literals.{Literal, negated, is_same, IsKnown}
-use Rattle.kn_logic.proofs.Public.{same-refl}
+use Rattle.kn_logic.proofs.Public.{same-refl, negated_twice}
 use Rattle.kn_lines.specs.declared.line.Arm.{Arm}
 use Rattle.kn_lines.specs.declared.line.Arm.TheVariants as arm
 use Rattle.kn_rules.specs.declared.given.Given.{Given}
@@ -14,7 +14,6 @@ use Rattle.kn_diagram.proofs.Public.{has_nodes, is-branch}
 use Rattle.kn_justify.specs.declared.name.Name.{Name}
 use Rattle.kn_justify.specs.Arms.{Settled, Refuted, AreKnownArms, literals_of, is_trivial}
 use Rattle.kn_justify.specs.Names.{name_of, arm_at, test_at, test_of, IsRightName, HasName, hint_at, side_hints, pair_arms, high_met, low_met, IsNamedMet}
-use Rattle.kn_justify.proofs.ArmLemmas.{negated_twice}
 use Rattle.kn_justify.proofs.HintLemmas.{side-refuted, second-refuted, halves-refuted, trivial-settled}
 use Rattle.kn_justify.proofs.DefinitionLemmas.{high-down, low-down, high-up, low-up}
 use Rattle.kn_justify.proofs.NameLemmas.{arm_named, pair-known}

@@ -6,12 +6,12 @@ use Rattle.std.proofs.lemmas.Bool.{or_cases, or_parts, or_left, or_right, not_fr
 use Rattle.kn_logic.specs.Literals.{Literal, negated, is_same, has}
 use Rattle.kn_logic.specs.Constraints.{Bounded}
 use Rattle.kn_logic.specs.Propagation.{IsConsistent}
-use Rattle.kn_logic.proofs.Public.{same_literal, same-refl, has-first}
+use Rattle.kn_logic.proofs.Public.{same_literal, same-refl, has-first, All-from, negated_twice}
 use Rattle.kn_lines.specs.declared.line.Arm.{Arm}
 use Rattle.kn_lines.specs.declared.line.Arm.TheVariants as arm
 use Rattle.kn_rules.specs.Steps.{is_conflict}
 use Rattle.kn_justify.specs.Arms.{AllRefuted, Refutes, has_true, literals_of, has_both, is_trivial}
-use Rattle.kn_justify.proofs.ArmLemmas.{negated_twice, All-from, not_itself}
+use Rattle.kn_justify.proofs.ArmLemmas.{not_itself}
 
 pub has_negated : (lits : List Literal) (l : Literal) → has lits l ≡ true → has (map negated lits) (negated l) ≡ true
 has_negated [] l e = absurd cc

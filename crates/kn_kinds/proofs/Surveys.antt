@@ -1,6 +1,7 @@
 -- What counting all places tells, and what it says of the answers of a visit and of the first watches.
 use Rattle.std.proofs.Common.{◌≡◌, ℕ, zero, ◌≤◌, ◌<◌, ◌⊎◌, Bool, true, false, not, List, Option, Some, None, length, refl, sym, ◌∙◌, subst, inl, inr, arith}
 use Rattle.std.proofs.lemmas.Bool.{cases_Bool, cases_lt, and_parts, and_from, and_cases, not-true, not-false, not_from_false, true_from_ne_false}
+use Rattle.kn_logic.proofs.Public.{negated_twice}
 use Rattle.kn_logic.specs.Literals.{Literal, negated, has}
 use Rattle.kn_logic.specs.Constraints.{Bounded}
 use Rattle.kn_logic.specs.Propagation.{is_open, open_places, has_unset, IsShort, IsShortUnder}
@@ -8,7 +9,7 @@ use Rattle.kn_watch.specs.declared.watched.Visit.{Visit}
 use Rattle.kn_watch.specs.declared.watched.Visit.TheVariants.{Moved, Satisfied, Forces, Conflict}
 use Rattle.kn_watch.specs.Trails.{Trailed, literals, IsTrail}
 use Rattle.kn_watch.specs.Watches.{listed, lit_at, is_unset, IsReleased, IsBinding, IsSatisfied, IsConflicting, IsForcing, NoneFalse, HasWatches, IsLatest, IsStart, IsTurn}
-use Rattle.kn_watch.proofs.Public.{negated_twice, all_true, tight, open_lt, lit_last, long_one, forces_own}
+use Rattle.kn_watch.proofs.Public.{all_true, tight, open_lt, lit_last, long_one, forces_own}
 use Rattle.kn_kinds.specs.Latest.{AreLatest}
 use Rattle.kn_kinds.specs.Kinds.{is_undecided, IsSurveyed}
 use Rattle.kn_kinds.proofs.Ranks.{latest_is}

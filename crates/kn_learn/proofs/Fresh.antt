@@ -7,10 +7,9 @@ use Rattle.kn_logic.specs.Literals.{Literal, negated, is_same, has, places, AreD
 use Rattle.kn_logic.specs.Constraints.{clause}
 use Rattle.kn_logic.specs.Propagation.{is_open, open_places, IsShort}
 use Rattle.kn_logic.specs.Newness.{IsNew}
-use Rattle.kn_logic.proofs.Public.{same_literal, has-first}
+use Rattle.kn_logic.proofs.Public.{same_literal, has-first, negated_twice}
 use Rattle.kn_watch.specs.declared.trail.Made.{Made}
 use Rattle.kn_watch.specs.Trails.{literals, below}
-use Rattle.kn_watch.proofs.Public.{negated_twice}
 use Rattle.kn_propagate.specs.Engines.{Engined, constraints, IsEngine}
 use Rattle.kn_learn.specs.Lessons.{IsRefutedAt}
 use Rattle.kn_learn.proofs.Places.{same-made}

@@ -5,11 +5,10 @@ use Rattle.std.proofs.lemmas.Bool.{cases_Bool, cases_eq, cases_lt, eqb-true}
 use Rattle.std.proofs.lemmas.List.{take_more}
 use Rattle.kn_logic.specs.Literals.{Literal, negated, has, AreDifferent}
 use Rattle.kn_logic.specs.Constraints.{Bounded}
-use Rattle.kn_logic.proofs.Public.{All-push, All-has}
+use Rattle.kn_logic.proofs.Public.{All-push, All-has, negated_twice}
 use Rattle.kn_watch.specs.declared.trail.Made.{Made}
 use Rattle.kn_watch.specs.Trails.{Trailed, literals}
 use Rattle.kn_watch.specs.Watches.{listed}
-use Rattle.kn_watch.proofs.Public.{negated_twice}
 use Rattle.kn_propagate.specs.Engines.{Live}
 use Rattle.kn_learn.specs.declared.marks.Mark.{Mark}
 use Rattle.kn_learn.specs.declared.marks.Mark.TheVariants.{Unseen, Seen, Pending, Explained, Failed}

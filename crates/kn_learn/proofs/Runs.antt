@@ -1,14 +1,12 @@
 -- A constraint forces the same where the list has only those literals that it rests on.
 use Rattle.std.proofs.Common.{◌≡◌, ℕ, ◌++◌, Bool, true, false, not, cond, eqb, ltb, List, [], ◌∷◌, Option, None, Some, refl, sym, ap, subst, inl, inr}
 use Rattle.std.specs.List.{AllByRecursion, filter}
-use Rattle.std.proofs.lemmas.Bool.{or_right}
 use Rattle.std.proofs.lemmas.Option.{same_Some}
-use Rattle.kn_logic.specs.Literals.{Literal, negated, is_same, has}
+use Rattle.kn_logic.specs.Literals.{Literal, negated, has}
 use Rattle.kn_logic.specs.Constraints.{Bounded}
 use Rattle.kn_logic.specs.Propagation.{is_open, open_places, after_bound, after_parts, after_hint, Forces}
-use Rattle.kn_logic.proofs.Public.{has-left, has-right, has-either, has-first, has-filter, has-filtered, Covers, Grows, hint-grows, hint-conflict-grows}
+use Rattle.kn_logic.proofs.Public.{has-left, has-right, has-either, has-first, has-filter, has-filtered, Covers, Grows, hint-grows, hint-conflict-grows, All-from, negated_twice}
 use Rattle.kn_watch.specs.Watches.{unguarded}
-use Rattle.kn_watch.proofs.Public.{negated_twice}
 use Rattle.kn_learn.specs.Reasons.{Gives, rests_on}
 
 abbrev pub Makes : Option (List Literal) → Literal → Type 0
@@ -104,10 +102,6 @@ rests-guard c guard e =
     has-right c.lits (unguarded c.guard) (negated guard) (subst (λ (o : Option Literal). has (unguarded o) (negated guard) ≡ true) (sym e) (has-first (negated guard) []))
 
 -- what is said of each literal of a list is said by going through it
-All-from : (P : Literal → Type 0) (lits : List Literal) → ((l : Literal) → has lits l ≡ true → P l) → AllByRecursion P lits
-All-from P [] h = tt
-All-from P (x ∷ lits) h = (h x (has-first x lits), All-from P lits (λ l k. h l (or_right (is_same l x) (has lits l) k)))
-
 open-agrees : (c : Bounded) (before : List Literal) → AllByRecursion (λ x. is_open (rested c before) x ≡ is_open before x) c.lits
 open-agrees c before = All-from (λ x. is_open (rested c before) x ≡ is_open before x) c.lits
     (λ x h. ap not (filter-has (rests_on c) before (negated x) (rests-negated c x h)))

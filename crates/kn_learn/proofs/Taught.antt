@@ -10,10 +10,10 @@ use Rattle.kn_logic.specs.Literals.{Literal, negated, is_same, has, names, IsKno
 use Rattle.kn_logic.specs.Constraints.{Bounded, clause}
 use Rattle.kn_logic.specs.Newness.{IsNew}
 use Rattle.kn_logic.specs.Propagation.{IsShort, after_hint, hint_run}
-use Rattle.kn_logic.proofs.Public.{same-refl}
+use Rattle.kn_logic.proofs.Public.{same-refl, negated_twice}
 use Rattle.kn_watch.specs.declared.trail.Made.{Made}
 use Rattle.kn_watch.specs.Trails.{Trailed, literals, below}
-use Rattle.kn_watch.proofs.Public.{negated_twice, length-literals}
+use Rattle.kn_watch.proofs.Public.{length-literals}
 use Rattle.kn_propagate.specs.Engines.{Live, Engined, constraints, live_in, HasStepped, IsConflict, IsEngine}
 use Rattle.kn_propagate.specs.declared.step.Step.TheVariants.{Conflict}
 use Rattle.kn_learn.specs.declared.marks.Mark.{Mark}

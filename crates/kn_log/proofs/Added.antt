@@ -1,10 +1,9 @@
 -- What several calls added, one after another.
-use Rattle.std.proofs.Common.{◌≡◌, ℕ, ◌+◌, true, false, List, [], ◌∷◌, ◌++◌, Option, Result, Ok, Err, refl, sym, ap, ◌∙◌, subst, append_assoc, arith}
+use Rattle.std.proofs.Common.{◌≡◌, ℕ, ◌+◌, true, false, List, [], ◌∷◌, ◌++◌, Option, Result, Ok, Err, refl, sym, ap, ◌∙◌, subst, append_assoc}
 use Rattle.std.proofs.lemmas.List.{append-nil}
 use Rattle.kn_bytes.specs.Outside.{Got, GotPrefix}
 use Rattle.kn_bytes.proofs.Public.{Got-nil, Got-append, GotPrefix-append}
 use Rattle.kn_lines.specs.declared.line.Line.{Line}
-use Rattle.kn_rules.specs.States.{ProofState}
 use Rattle.kn_rules.specs.Steps.{step}
 use Rattle.kn_rules.specs.Stepping.{StepsBy}
 use Rattle.kn_rules.proofs.Public.{StepsBy-append}

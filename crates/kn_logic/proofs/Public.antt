@@ -1,11 +1,11 @@
 -- For the crates above: literals in lists, how many places pass a test, and what a hint makes of a longer
 -- list. It ends in conflict wherever it did, and what joined the shorter list is in the longer one.
-use Rattle.std.proofs.Common.{◌≡◌, ℕ, zero, suc, ◌+◌, ◌≤◌, ◌<◌, ◌⊎◌, ◌++◌, Bool, true, false, not, ◌||◌, cond, eqb, ltb, List, [], ◌∷◌, length, set, get_or, IfSome, Option, None, Some, refl, sym, ◌∙◌, subst, inl, inr, arith}
+use Rattle.std.proofs.Common.{◌≡◌, ℕ, zero, suc, ◌+◌, ◌≤◌, ◌<◌, ◌⊎◌, ◌++◌, Bool, true, false, not, ◌||◌, cond, eqb, ltb, List, [], ◌∷◌, length, set, get_or, IfSome, Option, None, Some, refl, sym, ap, ◌∙◌, subst, inl, inr, arith}
 use Rattle.std.specs.List.{AllByRecursion, filter, slice_get}
-use Rattle.std.proofs.lemmas.Bool.{and_parts, and_from, or_cases, or_parts, or_left, or_right, cases_Bool, cond_both, cond-true, cond-false, eqb-true, eqb-false, eq-eqb, ne_eqb, ltb-true, ltb-false, not_from_false}
+use Rattle.std.proofs.lemmas.Bool.{and_parts, and_from, or_cases, or_parts, or_left, or_right, cases_Bool, cond_both, cond-true, cond-false, eqb-true, eqb-false, eq-eqb, ne_eqb, ltb-true, ltb-false, lt-ltb, le-ltb, or_from, not_from_false}
 use Rattle.std.proofs.lemmas.List.Elements.{All-from_recursion}
 use Rattle.std.proofs.lemmas.List.Folds.{list_any-append}
-use Rattle.kn_logic.specs.Literals.{Literal, negated, is_same, has, names, places, IsKnown, AreKnown}
+use Rattle.kn_logic.specs.Literals.{Literal, negated, is_same, has, names, places, IsKnown, AreKnown, AreDifferent}
 use Rattle.kn_logic.specs.Assignments.{is_true}
 use Rattle.kn_logic.specs.Constraints.{Bounded}
 use Rattle.kn_logic.specs.Propagation.{is_open, open_places, after_bound, after_guard, after_parts, after_hint, Forces}
@@ -40,6 +40,10 @@ at-push P (x ∷ xs) y h p (suc k) = at-push (λ n. P (suc n)) xs y (λ n. h (su
 pub known-append : (vars : ℕ) (a b : List Literal) → AreKnown vars a → AreKnown vars b → AreKnown vars (a ++ b)
 known-append vars [] b h k = k
 known-append vars (l ∷ a) b h k = (h.0, known-append vars a b h.1 k)
+
+pub are_known-more : (vars more : ℕ) (lits : List Literal) → vars ≤ more → AreKnown vars lits → AreKnown more lits
+are_known-more vars more [] le h = tt
+are_known-more vars more (l ∷ lits) le h = ((h.0.0, omega (arith, h.0.1, le)), are_known-more vars more lits le h.1)
 
 keep_known : (vars : ℕ) (l : Literal) (lits : List Literal) (t : Bool) → IsKnown vars l → AreKnown vars lits → AreKnown vars (cond t (l ∷ lits) lits)
 keep_known vars l lits true h k = (h, k)
@@ -82,6 +86,9 @@ pub not_twice : (p : Bool) → not (not p) ≡ p
 not_twice true = refl
 not_twice false = refl
 
+pub negated_twice : (l : Literal) → negated (negated l) ≡ l
+negated_twice l = same_record l.variable l.variable (not (not l.positive)) l.positive refl (not_twice l.positive)
+
 pub same-refl : (l : Literal) → is_same l l ≡ true
 same-refl l = and_from _ _ (eq-eqb l.variable l.variable refl) (same_sign l.positive)
 
@@ -109,6 +116,11 @@ All-has P (x ∷ lits) l h e =
       | inl s ↦ subst P (sym (same_literal l x s)) h.0
       | inr t ↦ All-has P lits l h.1 t
     ]
+
+-- and what holds of each one that stands there holds of all
+pub All-from : (P : Literal → Type 0) (lits : List Literal) → ((l : Literal) → has lits l ≡ true → P l) → AllByRecursion P lits
+All-from P [] h = tt
+All-from P (x ∷ lits) h = (h x (has-first x lits), All-from P lits (λ l k. h l (or_right (is_same l x) (has lits l) k)))
 
 filter_first : (test : Literal → Bool) (x l : Literal) (rest : List Literal) (t : Bool) → test x ≡ t → is_same l x ≡ true → test l ≡ true → has (cond t (x ∷ rest) rest) l ≡ true
 filter_first test x l rest true e s k = or_left (is_same l x) (has rest l) s
@@ -144,6 +156,22 @@ has-push (y ∷ lits) l x = or_under (is_same x y) _ _ _ (has-push lits l x)
     or_under : (a b c d : Bool) → b ≡ (c || d) → (a || b) ≡ (a || c || d)
     or_under true b c d e = refl
     or_under false b c d e = e
+
+-- the variables that a list names
+pub has-names : (lits : List Literal) (l : Literal) → has lits l ≡ true → names lits l.variable ≡ true
+has-names [] l e = absurd cc
+has-names (x ∷ lits) l e =
+    elim (or_cases (is_same l x) (has lits l) e) [
+      | inl s ↦ (let same = same_literal l x s in or_left (eqb x.variable l.variable) (names lits l.variable) (eq-eqb x.variable l.variable (sym (ap (λ (y : Literal). y.variable) same))))
+      | inr t ↦ or_right (eqb x.variable l.variable) (names lits l.variable) (has-names lits l t)
+    ]
+
+pub different-push : (lits : List Literal) (l : Literal) → AreDifferent lits → names lits l.variable ≡ false → AreDifferent (lits ++ l ∷ [])
+different-push [] l h n = (refl, tt)
+different-push (x ∷ lits) l h n =
+    let parts = or_parts (eqb x.variable l.variable) (names lits l.variable) n in
+    let other : eqb l.variable x.variable ≡ false = ne_eqb l.variable x.variable (λ e. eqb-false x.variable l.variable parts.0 (sym e)) in
+    (list_any-append (λ y. eqb y.variable x.variable) lits (l ∷ []) ∙ or_from (names lits x.variable) (eqb l.variable x.variable || false) h.0 (or_from (eqb l.variable x.variable) false other refl), different-push lits l h.1 parts.1)
 
 -- a literal of a variable that the list does not name
 pub unnamed : (lits : List Literal) (x : Literal) → names lits x.variable ≡ false → has lits x ≡ false
@@ -202,18 +230,12 @@ pub after-on : (trail : List Literal) (guard : Option Literal) (bound : ℕ) (li
 after-on trail None bound lits on = refl
 after-on trail (Some guard) bound lits on = cond-true (has trail guard) _ _ on
 
-below : (a b : ℕ) → a < b → ltb a b ≡ true
-below a b h = elim (cases_Bool (ltb a b)) [ inl e ↦ e | inr e ↦ absurd (omega (arith, ltb-false _ _ e)) ]
-
-not_below : (a b : ℕ) → b ≤ a → ltb a b ≡ false
-not_below a b h = elim (cases_Bool (ltb a b)) [ inl e ↦ absurd (omega (arith, ltb-true _ _ e)) | inr e ↦ e ]
-
 bound_short : (trail : List Literal) (bound : ℕ) (lits : List Literal) → open_places trail lits < bound → after_bound trail bound lits ≡ None
-bound_short trail bound lits h = cond-true _ _ _ (below _ _ h)
+bound_short trail bound lits h = cond-true _ _ _ (lt-ltb _ _ h)
 
 bound_met : (trail : List Literal) (bound : ℕ) (lits : List Literal) → open_places trail lits ≡ bound → after_bound trail bound lits ≡ Some (trail ++ filter (is_open trail) lits)
 bound_met trail bound lits h =
-    cond-false _ None (cond (eqb (open_places trail lits) bound) (Some (trail ++ filter (is_open trail) lits)) (Some trail)) (not_below _ _ (omega arith))
+    cond-false _ None (cond (eqb (open_places trail lits) bound) (Some (trail ++ filter (is_open trail) lits)) (Some trail)) (le-ltb _ _ (omega arith))
     ∙ cond-true _ _ _ (eq-eqb _ _ h)
 
 -- fewer literals than the bound are not false: a conflict
@@ -233,7 +255,7 @@ guard_refuted : (trail : List Literal) (guard : Literal) (bound : ℕ) (lits : L
 guard_refuted trail guard bound lits e f h =
     cond-false (has trail guard) (after_bound trail bound lits) (cond (has trail (negated guard)) (Some trail) (cond (ltb (open_places trail lits) bound) (Some (trail ++ negated guard ∷ [])) (Some trail))) e
     ∙ cond-false (has trail (negated guard)) (Some trail) (cond (ltb (open_places trail lits) bound) (Some (trail ++ negated guard ∷ [])) (Some trail)) f
-    ∙ cond-true _ _ _ (below _ _ h)
+    ∙ cond-true _ _ _ (lt-ltb _ _ h)
 
 -- the guard has no value, and fewer literals than the bound are not false: the guard's negation is forced
 pub forces-guard : (trail : List Literal) (c : Bounded) (guard : Literal) → c.guard ≡ Some guard → has trail guard ≡ false → has trail (negated guard) ≡ false → open_places trail c.lits < c.bound → Forces trail c (negated guard)

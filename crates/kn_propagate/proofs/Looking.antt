@@ -7,11 +7,11 @@ use Rattle.std.proofs.lemmas.List.Folds.{list_any-append}
 use Rattle.kn_logic.specs.Literals.{Literal, negated, has}
 use Rattle.kn_logic.specs.Constraints.{Bounded}
 use Rattle.kn_logic.specs.Propagation.{is_open, open_places, IsShort, IsShortUnder}
-use Rattle.kn_logic.proofs.Public.{places-le}
+use Rattle.kn_logic.proofs.Public.{places-le, negated_twice}
 use Rattle.kn_watch.specs.Trails.{Trailed, literals}
 use Rattle.kn_propagate.specs.Chains.{Watching, at_slot, is_in, IsGrown, AreSettled}
 use Rattle.kn_watch.specs.Watches.{listed, unguarded, lit_at, is_unset, IsBinding, IsSatisfied, IsConflicting, IsForcing}
-use Rattle.kn_watch.proofs.Public.{Within, open_within, satisfied_within, all_within_grown, tight, forces_own, lit_last, long_one, negated_twice}
+use Rattle.kn_watch.proofs.Public.{Within, open_within, satisfied_within, all_within_grown, tight, forces_own, lit_last, long_one}
 
 at_guard : (trail : List Literal) (c : Bounded) (g : Literal) → c.guard ≡ Some g → is_open trail g ≡ true → has trail g ≡ false → open_places trail c.lits < c.bound → IsForcing trail c
 at_guard trail c g is o h lt =

@@ -3,6 +3,7 @@ use Rattle.std.proofs.Common.{◌≡◌, ◌≢◌, ℕ, zero, ◌+◌, ◌*◌,
 use Rattle.std.specs.Prelude.{slice_get, nat_lt, ◌||◌}
 use Rattle.std.proofs.lemmas.Bool.{cases_lt, not_from_true, or_left, or_right, or_cases, eq-eqb, eqb-true, le-ltb, cond-false}
 use Rattle.std.proofs.lemmas.List.Folds.{list_any-append}
+use Rattle.kn_logic.proofs.Public.{negated_twice}
 use Rattle.kn_logic.specs.Literals.{Literal, negated, has}
 use Rattle.kn_logic.specs.Constraints.{Bounded, IsWithin}
 use Rattle.kn_logic.specs.Propagation.{is_open, open_places, IsShort, Forces}
@@ -11,7 +12,7 @@ use Rattle.kn_watch.specs.Trails.{Trailed, literals, below, IsTrail}
 use Rattle.kn_watch.specs.declared.watched.Visit.{Visit}
 use Rattle.kn_watch.specs.declared.watched.Visit.TheVariants as turned
 use Rattle.kn_watch.specs.Watches.{listed, unguarded, NoneFalse, IsBinding, IsSatisfied, IsConflicting, IsForcing, HasWatches, IsLatest, IsStart}
-use Rattle.kn_watch.proofs.Public.{negated_twice, open_append, tight, started, none_false_within, settled_now, rising_top, below_top}
+use Rattle.kn_watch.proofs.Public.{open_append, tight, started, none_false_within, settled_now, rising_top, below_top}
 use Rattle.kn_propagate.specs.Chains.{Watching, Chained, at_slot, is_in, nobody, nothing, vacancy, IsKept, IsAtRest, IsStill, AreSpare}
 use Rattle.kn_propagate.specs.Wholes.{IsPending, IsGuarded, IsQuiet, AreFounded, IsTabled}
 use Rattle.kn_propagate.proofs.Changing.{Changes, each}

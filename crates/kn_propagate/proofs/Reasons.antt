@@ -7,13 +7,12 @@ use Rattle.std.proofs.lemmas.List.{map-append, take-append-le}
 use Rattle.kn_logic.specs.Constraints.{Bounded}
 use Rattle.kn_logic.specs.Literals.{Literal, negated, is_same, has}
 use Rattle.kn_logic.specs.Propagation.{is_open, Forces}
-use Rattle.kn_logic.proofs.Public.{IsOn, forces-bound, forces-guard, has-first}
+use Rattle.kn_logic.proofs.Public.{IsOn, forces-bound, forces-guard, has-first, negated_twice}
 use Rattle.kn_watch.specs.declared.trail.Made.{Made}
 use Rattle.kn_watch.specs.Trails.{Trailed, literals}
 use Rattle.kn_watch.specs.Watches.{listed, unguarded, lit_at, is_unset, IsBinding, IsForced}
 use Rattle.kn_propagate.specs.Chains.{Watching, at_slot, AreSame, IsGrown, AreForcedBy, HasReason, AreReasoned}
 use Rattle.kn_watch.proofs.Public.{lit_own, lit_last, long_none, long_one}
-use Rattle.kn_watch.proofs.Public.{negated_twice}
 use Rattle.kn_propagate.proofs.Walks.{length-literals}
 
 has_place : (lits : List Literal) (place : ℕ) → place < length lits → has lits (lit_at lits place) ≡ true

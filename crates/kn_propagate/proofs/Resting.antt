@@ -13,10 +13,10 @@ use Rattle.kn_watch.specs.Watches.{listed, lit_at, NoneFalse, IsSatisfied, IsSet
 use Rattle.kn_watch.specs.Trails.{Grows}
 use Rattle.kn_propagate.specs.Chains.{Watching, at_slot, lit_of_spot, is_in, code, spot_at, IsWalked, IsAtRest, Goes, IsGrown}
 use Rattle.kn_watch.proofs.Public.{settled_back, settled_quiet}
-use Rattle.kn_watch.proofs.Public.{IsTop, below_grown, settled_now, settled_grows, append_none, negated_twice}
+use Rattle.kn_watch.proofs.Public.{IsTop, below_grown, settled_now, settled_grows, append_none}
 use Rattle.kn_watch.specs.Quiet.{quiet_law}
 use Rattle.kn_watch.proofs.Public.{Within, none_false_within, open_within}
-use Rattle.kn_logic.proofs.Public.{same_literal}
+use Rattle.kn_logic.proofs.Public.{same_literal, negated_twice}
 use Rattle.kn_watch.proofs.Public.{below_all}
 use Rattle.kn_propagate.proofs.Relinking.{a_spot, spot_other}
 

@@ -3,7 +3,7 @@ use Rattle.std.proofs.Common.{◌≡◌, ◌≢◌, ℕ, zero, suc, ◌+◌, ◌
 use Rattle.std.specs.Prelude.{slice_index_or, slice_set}
 use Rattle.std.proofs.lemmas.Bool.{or_left, or_right, not_from_true, eq-eqb, ne_eqb, cases_eq, cond-true, cond-false}
 use Rattle.std.proofs.Math.ListN.{length-set}
-use Rattle.kn_logic.proofs.Public.{same-refl}
+use Rattle.kn_logic.proofs.Public.{same-refl, negated_twice}
 use Rattle.kn_logic.specs.Literals.{Literal, negated, has, is_same}
 use Rattle.kn_logic.specs.Propagation.{is_open}
 use Rattle.kn_watch.specs.declared.trail.Made.{Made}
@@ -15,7 +15,7 @@ use Rattle.kn_propagate.specs.Chains.{Watching, at_slot, lit_of_spot, is_in, cod
 use Rattle.kn_watch.proofs.Public.{Within}
 use Rattle.kn_propagate.proofs.Laying.{first_once, lay, draw, drawn_loose, count_is, chain_short}
 use Rattle.kn_propagate.proofs.Relinking.{relaid, linked_stays, linked_moves}
-use Rattle.kn_watch.proofs.Public.{negated_twice, IsTop, settled_grows}
+use Rattle.kn_watch.proofs.Public.{IsTop, settled_grows}
 use Rattle.kn_propagate.proofs.Resting.{code_one, walked_satisfied, walked_other, walked_moved, walked_moved_other, walked_all}
 
 chain_first : (nexts : List ℕ) (head e : ℕ) (xs : List ℕ) → IsChain nexts head xs → head ≡ e + 1 → (rest : List ℕ) × (xs ≡ e ∷ rest)

@@ -63,6 +63,12 @@ impl Chains {
         })
     }
 
+    // how many entries there are, those that are not used counted
+    #[cfg(test)]
+    pub(crate) fn entry_count(&self) -> usize {
+        self.entries.len()
+    }
+
     /// The spot of an entry.
     pub fn spot(&self, entry: usize) -> Spot
         requires { entry < length self.now.spots }

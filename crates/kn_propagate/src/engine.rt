@@ -213,6 +213,12 @@ impl<C: Watched, K: Watched> Engine<C, K> {
         }
     }
 
+    // how many slots and entries there are, those that are not used counted
+    #[cfg(test)]
+    pub(crate) fn room(&self) -> (usize, usize) {
+        (self.slots.len(), self.chains.entry_count())
+    }
+
     // adds a constraint of one of the kinds
     fn add(&mut self, watch: Held<C, K>, id: u64) -> Result<(), NoMemory>
         requires fresh { live_in self.old.live id ≡ None }

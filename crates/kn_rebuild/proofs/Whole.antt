@@ -18,7 +18,6 @@ use Rattle.kn_quant.specs.declared.stage.Bucket.{Bucket}
 use Rattle.kn_quant.specs.Eliminations.{Eliminated, IsEliminationOf, buckets_of, steps_of}
 use Rattle.kn_quant.specs.Runs.{clause_function, order_of}
 use Rattle.kn_quant.specs.Rebuilt.{rebuilt}
-use Rattle.kn_quant.proofs.Public.{one-run}
 use Rattle.kn_store.proofs.Public.{Rises, rises, from-map}
 use Rattle.kn_extract.specs.Extractions.{Found, klause_of, listed}
 use Rattle.kn_extract.specs.Structure.{IsClear, IsOver, StandApart, Pairwise, HoldTaken}
@@ -184,9 +183,7 @@ taken-hold values (t ∷ ts) taken done = (clauses-hold values t.group.taken tak
 pub rules-hold : (values : List Bool) (ts : List Took) → AllByRecursion IsTaken ts → AllByRecursion (IsDone (value_of values)) ts → AllByRecursion (λ t. AreByRule values t.group) ts
 rules-hold values [] taken done = tt
 rules-hold values (t ∷ ts) taken done = (
-  λ steps buckets f run.
-      let r = has-run t taken.0 in
-      subst (AllByRecursion (IsByBucket (value_of values))) (one-run t.group.aux (map clause_function t.group.taken) r.steps steps (buckets_in t.elimination) buckets r.function f r.run run).1 done.0.1,
+  (let r = has-run t taken.0 in (r.steps, buckets_in t.elimination, r.function, r.run, done.0.1)),
   rules-hold values ts taken.1 done.1,
 )
 

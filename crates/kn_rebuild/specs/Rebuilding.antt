@@ -18,10 +18,11 @@ use Rattle.kn_quant.specs.Runs.{Function, Step, Runs, clause_function}
 abbrev pub IsByBucket : (ℕ → Bool) → ℕ × Function → Type 0
 IsByBucket v b = v b.0 ≡ b.1 (with_value v b.0 true)
 
--- The rule of rebuilding, for a group: it holds of each bucket of the elimination of its auxiliary variables.
+-- The rule of rebuilding, for a group: its auxiliary variables are eliminated by a run, of which there is no other, and
+-- this holds of each of its buckets.
 abbrev pub AreByRule : List Bool → Gathered → Type 0
-AreByRule values g = (steps : List Step) (buckets : List (ℕ × Function)) (f : Function)
-    → Runs g.aux (map clause_function g.taken) steps buckets f → AllByRecursion (IsByBucket (value_of values)) buckets
+AreByRule values g = (steps : List Step) × (buckets : List (ℕ × Function)) × (f : Function)
+    × Runs g.aux (map clause_function g.taken) steps buckets f × AllByRecursion (IsByBucket (value_of values)) buckets
 
 -- two assignments of values are the same at all variables, which count from 1
 abbrev pub AreAlike : (ℕ → Bool) → (ℕ → Bool) → Type 0

@@ -10,7 +10,7 @@ use Rattle.kn_logic.specs.Literals.{Literal, negated, is_same, has, names, place
 use Rattle.kn_logic.specs.Constraints.{Bounded, clause}
 use Rattle.kn_logic.specs.Propagation.{is_open, open_places, has_unset, IsShort}
 use Rattle.kn_logic.specs.Newness.{IsNewBy, IsNew}
-use Rattle.kn_logic.proofs.Public.{same_literal, has-first, All-has}
+use Rattle.kn_logic.proofs.Public.{same_literal, All-has, All-from, has-names}
 
 -- Clauses as numbers in base 3: a digit for each variable, which says whether the clause has it, and how.
 abbrev pub digit : List Literal → ℕ → ℕ
@@ -33,18 +33,6 @@ pub record AreApart (vars : ℕ) (cs : List (List Literal)) : Type 0 where
 -- the clause is one of these constraints
 abbrev pub Stands : List Bounded → List Literal → Type 0
 Stands cs lits = (i : ℕ) × (slice_get cs i ≡ Some (clause lits))
-
-All-from : (P : Literal → Type 0) (lits : List Literal) → ((l : Literal) → has lits l ≡ true → P l) → AllByRecursion P lits
-All-from P [] h = tt
-All-from P (x ∷ lits) h = (h x (has-first x lits), All-from P lits (λ l k. h l (or_right (is_same l x) (has lits l) k)))
-
-pub has-names : (lits : List Literal) (l : Literal) → has lits l ≡ true → names lits l.variable ≡ true
-has-names [] l e = absurd cc
-has-names (x ∷ lits) l e =
-    elim (or_cases (is_same l x) (has lits l) e) [
-      | inl s ↦ (let same = same_literal l x s in or_left (eqb x.variable l.variable) (names lits l.variable) (eq-eqb x.variable l.variable (sym (ap (λ (y : Literal). y.variable) same))))
-      | inr t ↦ or_right (eqb x.variable l.variable) (names lits l.variable) (has-names lits l t)
-    ]
 
 not_itself : (p : Bool) → cond (not p) p (not p) ≡ false
 not_itself true = refl

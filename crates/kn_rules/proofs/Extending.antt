@@ -1,6 +1,7 @@
 -- Values of further variables change nothing for what is over the first ones.
 use Rattle.std.proofs.Common.{◌≡◌, ℕ, ◌-◌, ◌≤◌, ◌++◌, Bool, not, cond, List, [], ◌∷◌, length, Option, None, Some, IfSome, refl, ap, ◌∙◌, subst, sym, inl, inr, arith}
 use Rattle.std.proofs.lemmas.List.{get_or_append_left}
+use Rattle.kn_logic.proofs.Public.{are_known-more}
 use Rattle.kn_logic.specs.Literals.{Literal, IsKnown, AreKnown}
 use Rattle.kn_logic.specs.Assignments.{value_of, is_true, true_places}
 use Rattle.kn_logic.specs.Constraints.{Bounded, IsOff, IsWithin, Holds}
@@ -15,10 +16,6 @@ use Rattle.kn_rules.proofs.Nodes.{arm_value, defined_value}
 -- more variables
 pub known-more : (vars more : ℕ) (l : Literal) → vars ≤ more → IsKnown vars l → IsKnown more l
 known-more vars more l h k = (k.0, omega arith)
-
-pub are_known-more : (vars more : ℕ) (lits : List Literal) → vars ≤ more → AreKnown vars lits → AreKnown more lits
-are_known-more vars more [] h k = tt
-are_known-more vars more (l ∷ lits) h k = (known-more vars more l h k.0, are_known-more vars more lits h k.1)
 
 guard-more : (vars more : ℕ) (guard : Option Literal) → vars ≤ more → IfSome guard (IsKnown vars) → IfSome guard (IsKnown more)
 guard-more vars more None h k = tt

@@ -1,9 +1,10 @@
 -- Hints of the engine are hints of the log: a clause that they refute is a line that steps.
-use Rattle.std.proofs.Common.{◌≡◌, ℕ, ◌≤◌, true, List, [], ◌∷◌, map, Option, None, Some, Ok, Err, IsOk, refl, sym, ap, subst, arith}
+use Rattle.std.proofs.Common.{◌≡◌, ℕ, ◌≤◌, ◌++◌, true, List, [], ◌∷◌, map, Option, None, Some, Ok, Err, IsOk, refl, sym, ap, ◌∙◌, subst}
 use Rattle.std.specs.List.{AllByRecursion}
 use Rattle.std.specs.Option.{is_none, option_and_then, option_map}
 use Rattle.std.proofs.lemmas.Bool.{and_from, le-leb, cond-true}
 use Rattle.std.proofs.lemmas.Option.{same_Some}
+use Rattle.kn_logic.proofs.Public.{are_known-more}
 use Rattle.kn_logic.specs.Literals.{Literal, negated, AreKnown}
 use Rattle.kn_logic.specs.Constraints.{Bounded, clause}
 use Rattle.kn_logic.specs.Propagation.{hint_run}
@@ -73,12 +74,8 @@ pub line-of : (s : ProofState) (o : Origin) (live : List Live) (c : Bounded) (li
 line-of s o live c lits hints ids is same m known refutes =
     subst (λ (d : Bounded). IsLine s o d hints) (sym is) (subst (IsLine s o (clause lits)) (sym same) (refuted_steps s o live lits ids m known refutes))
 
-pub known-more : (vars more : ℕ) (lits : List Literal) → vars ≤ more → AreKnown vars lits → AreKnown more lits
-known-more vars more [] le h = tt
-known-more vars more (l ∷ lits) le h = ((h.0.0, omega (arith, h.0.1, le)), known-more vars more lits le h.1)
-
 -- a learned clause of the engine may be logged
 pub learned-allowed : (vars forget deletions : ℕ) (s : ProofState) (live : List Live) (lits : List Literal) (hints : List ℕ) → vars ≤ s.vars → Mirrors live s.given → AreKnown vars lits → IsNew (constraints live) lits → Refutes live lits hints
     → Allows vars forget deletions s (Learned (clause lits) hints)
 learned-allowed vars forget deletions s live lits hints le m known new refutes =
-    (known, new-for-log live s.given lits m new, (refuted_steps s origin.Learned live lits hints m (known-more vars s.vars lits le known) refutes).uses)
+    (known, new-for-log live s.given lits m new, (refuted_steps s origin.Learned live lits hints m (are_known-more vars s.vars lits le known) refutes).uses)

@@ -2,7 +2,7 @@
 use Rattle.std.proofs.Common.{◌≡◌, ℕ, zero, suc, ◌+◌, ◌-◌, ◌≤◌, ◌<◌, ◌==◌, ◌⊎◌, ◌||◌, inl, inr, Bool, true, false, not, if◌then◌else◌, cond, List, [], ◌∷◌, length, map, filter, refl, sym, ap, ◌∙◌, subst, arith}
 use Rattle.std.proofs.lemmas.Bool.{cases_Bool, cond-true, cond-false, eqb-true, eq-eqb, ne_eqb, or_cases, false_from_ne_true, or_parts, or_left, or_right, true≢false, and_parts}
 use Rattle.kn_logic.specs.Literals.{Literal, negated, is_same, has, names, places, AreDifferent}
-use Rattle.kn_logic.proofs.Public.{same_literal, same-refl}
+use Rattle.kn_logic.proofs.Public.{same_literal, same-refl, has-names}
 use Rattle.kn_diagram.specs.Diagrams.{with_value, is_true_by}
 use Rattle.kn_verdict.specs.Numbers.{adds, asked, asked_literal}
 
@@ -34,14 +34,6 @@ others_none x (l ∷ lits) h =
     cond-true (not (l.variable == x)) (l ∷ others x lits) (others x lits) (ap not parts.0) ∙ ap (λ ls. l ∷ ls) (others_none x lits parts.1)
 
 -- a literal of the list has its variable named there
-has_names : (lits : List Literal) (l : Literal) → has lits l ≡ true → names lits l.variable ≡ true
-has_names [] l h = h
-has_names (k ∷ lits) l h = by (or_cases (is_same l k) (has lits l) h) (has_names lits l)
-  where
-    by : ((is_same l k ≡ true) ⊎ (has lits l ≡ true)) → (has lits l ≡ true → names lits l.variable ≡ true) → names (k ∷ lits) l.variable ≡ true
-    by (inl s) rest = or_left (k.variable == l.variable) (names lits l.variable) (eq-eqb k.variable l.variable (ap (λ x. x.variable) (sym (same_literal l k s))))
-    by (inr s) rest = or_right (k.variable == l.variable) (names lits l.variable) (rest s)
-
 swap : (a b c : ℕ) → a + (b + c) ≡ b + (a + c)
 swap a b c = omega arith
 
@@ -61,7 +53,7 @@ count-split v (k ∷ lits) l d h = by (or_cases (is_same l k) (has lits l) h) (c
         ap (λ x. adds x (v x.variable) + count v lits) e ∙ ap (λ ls. adds l (v l.variable) + count v ls) (sym dropped)
     by (inr s) rest =
         let apart : (k.variable == l.variable) ≡ false =
-        false_from_ne_true (k.variable == l.variable) (λ t. true≢false (sym (has_names lits l s) ∙ ap (names lits) (sym (eqb-true k.variable l.variable t)) ∙ d.0)) in
+        false_from_ne_true (k.variable == l.variable) (λ t. true≢false (sym (has-names lits l s) ∙ ap (names lits) (sym (eqb-true k.variable l.variable t)) ∙ d.0)) in
         let kept : others l.variable (k ∷ lits) ≡ k ∷ others l.variable lits =
         cond-true (not (k.variable == l.variable)) (k ∷ others l.variable lits) (others l.variable lits) (ap not apart) in
         let own = cond {A = ℕ} (is_true_by v k) 1 0 in

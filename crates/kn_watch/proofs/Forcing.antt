@@ -6,8 +6,8 @@ use Rattle.kn_logic.specs.Constraints.{Bounded}
 use Rattle.kn_logic.specs.Literals.{Literal, negated, is_same, has}
 use Rattle.kn_logic.specs.Propagation.{is_open, open_places, IsConsistent}
 use Rattle.kn_watch.specs.Watches.{listed, unguarded, lit_at, true_in, is_unset, IsReleased, IsBinding, IsSatisfied, IsConflicting, IsForced, IsForcing}
-use Rattle.kn_watch.proofs.Within.{Within, open_within, consistent_at, negated_twice}
-use Rattle.kn_logic.proofs.Public.{places-le, same-refl}
+use Rattle.kn_watch.proofs.Within.{Within, open_within, consistent_at}
+use Rattle.kn_logic.proofs.Public.{places-le, same-refl, negated_twice}
 
 -- how far it is: just as many as the bound are left, and those before this place have a value; or too few are
 -- left; or the guard has no value yet and its place is to come; or the guard is false

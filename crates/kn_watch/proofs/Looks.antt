@@ -4,11 +4,11 @@ use Rattle.std.specs.Prelude.{slice_index_or, ◌↔◌, IsTrue}
 use Rattle.std.specs.Option.{is_some}
 use Rattle.std.proofs.lemmas.Bool.{not_from_true, not_from_false, not-true, not-false, or_cases}
 use Rattle.std.proofs.lemmas.List.{take_more, get_or_read, take-append-le}
+use Rattle.kn_logic.proofs.Public.{negated_twice}
 use Rattle.kn_logic.specs.Constraints.{Bounded}
 use Rattle.kn_logic.specs.Literals.{Literal, negated, has}
 use Rattle.kn_logic.specs.Propagation.{is_open, open_places, has_unset}
 use Rattle.kn_watch.specs.Watches.{listed, unguarded, lit_at, is_unset, IsBinding, IsForcing}
-use Rattle.kn_watch.proofs.Within.{negated_twice}
 use Rattle.kn_watch.proofs.Starting.{open_append}
 use Rattle.kn_watch.proofs.Forcing.{lit_own, lit_last, long_one, long_least}
 

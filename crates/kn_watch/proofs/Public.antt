@@ -1,7 +1,7 @@
 -- For the crates above, and first for an engine: what is short, conflicting, forced, satisfied and settled, under
 -- trails that grow and go back. Nothing else is known of a constraint there.
 -- lists of literals within others
-pub use Rattle.kn_watch.proofs.Within.{Within, within-same, consistent_at, open_within, false_within, released_within, satisfied_within, none_false_within, all_set, satisfied_quiet, negated_twice}
+pub use Rattle.kn_watch.proofs.Within.{Within, within-same, consistent_at, open_within, false_within, released_within, satisfied_within, none_false_within, all_set, satisfied_quiet}
 -- what stands below a level, and what is settled
 pub use Rattle.kn_watch.proofs.Settled.{below_within, below_all, below_twice, settled_back, settled_quiet, settled_back_quiet}
 -- trails that grow at their level
@@ -9,7 +9,7 @@ pub use Rattle.kn_watch.proofs.Growing.{IsTop, rising_top, below_top, below_appe
 -- the first watches, and what is tight
 pub use Rattle.kn_watch.proofs.Starting.{all_true, open_append, tight, open_lt, started}
 -- what a trail keeps
-pub use Rattle.kn_watch.proofs.TrailKeeps.{eqb-sym, different-push, known-push, rising-push, rising-raise, literals-push, trail-push, at-most, length-literals, room, set-names, names_unset, consistent_of, different_below, consistent_below}
+pub use Rattle.kn_watch.proofs.TrailKeeps.{eqb-sym, known-push, rising-push, rising-raise, literals-push, trail-push, at-most, length-literals, room, set-names, names_unset, consistent_of, different_below, consistent_below}
 -- all that a constraint forces made true, place by place
 pub use Rattle.kn_watch.proofs.Forcing.{IsForcedTo, lit_own, lit_last, long_none, long_one, long_least, forced_first, not_forced, now_forced, forced_all}
 -- counting

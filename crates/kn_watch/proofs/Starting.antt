@@ -1,13 +1,14 @@
 -- What the first watches of a constraint give, where it is not short under what going back to a lower level leaves.
 use Rattle.std.proofs.Common.{◌≡◌, ℕ, zero, suc, ◌+◌, ◌≤◌, ◌<◌, ◌⊎◌, ◌++◌, Bool, true, false, not, ◌&&◌, cond, ltb, List, [], ◌∷◌, Option, Some, None, length, refl, sym, ◌∙◌, subst, inl, inr, arith}
 use Rattle.std.proofs.lemmas.Bool.{not_from_false, cases_Bool, cases_lt, or_parts, cond-false, le-ltb, false_from_ne_true}
+use Rattle.kn_logic.proofs.Public.{negated_twice}
 use Rattle.kn_logic.specs.Constraints.{Bounded}
 use Rattle.kn_logic.specs.Literals.{Literal, negated, has}
 use Rattle.kn_logic.specs.Propagation.{is_open, open_places, has_unset, LacksLiterals, IsShortUnder, IsShort}
 use Rattle.kn_watch.specs.declared.trail.Made.{Made}
 use Rattle.kn_watch.specs.Trails.{literals, below}
 use Rattle.kn_watch.specs.Watches.{listed, unguarded, lit_at, true_in, NoneFalse, IsReleased, IsSatisfied, IsSettled, IsLatest, count_watched, HasWatches, IsBroad}
-use Rattle.kn_watch.proofs.Within.{false_within, negated_twice}
+use Rattle.kn_watch.proofs.Within.{false_within}
 use Rattle.kn_watch.proofs.Settled.{below_all}
 
 -- where no literal that is not false lacks a value, all of them are true

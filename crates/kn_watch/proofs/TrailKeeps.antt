@@ -3,12 +3,11 @@ use Rattle.std.proofs.Common.{◌≡◌, ℕ, ◌+◌, ◌-◌, ◌≤◌, ◌<�
 use Rattle.std.specs.List.{AllByRecursion, list_any, IsDistinct}
 use Rattle.std.proofs.lemmas.Bool.{or_parts, or_from, or_cases, or_left, or_right, and_parts, not-true, not_from_false, cases_Bool, eqb-true, eqb-false, eq-eqb, ne_eqb, cases_eq}
 use Rattle.std.proofs.lemmas.List.{map-append}
-use Rattle.std.proofs.lemmas.List.Folds.{list_any-append}
 use Rattle.std.proofs.lemmas.Map.Steps.{length-le_from_distinct_below}
 use Rattle.kn_logic.specs.Literals.{Literal, negated, is_same, has, names, IsKnown, AreKnown, AreDifferent}
 use Rattle.kn_logic.specs.Propagation.{is_open, IsConsistent}
 use Rattle.kn_watch.specs.Watches.{is_unset}
-use Rattle.kn_logic.proofs.Public.{same_literal, same-refl}
+use Rattle.kn_logic.proofs.Public.{same_literal, same-refl, different-push}
 use Rattle.kn_watch.specs.declared.trail.Made.{Made}
 use Rattle.kn_watch.specs.Trails.{Trailed, literals, below, IsRising, IsTrail}
 
@@ -17,15 +16,6 @@ eqb-sym m n = elim (cases_eq m n) [
   | inl e ↦ eq-eqb m n e ∙ sym (eq-eqb n m (sym e))
   | inr d ↦ ne_eqb m n d ∙ sym (ne_eqb n m (λ e. d (sym e)))
 ]
-
-names-push : (lits : List Literal) (l : Literal) (v : ℕ) → names lits v ≡ false → eqb l.variable v ≡ false → names (lits ++ l ∷ []) v ≡ false
-names-push lits l v h d = list_any-append (λ x. eqb x.variable v) lits (l ∷ []) ∙ rw (h, d) refl
-
-pub different-push : (lits : List Literal) (l : Literal) → AreDifferent lits → names lits l.variable ≡ false → AreDifferent (lits ++ l ∷ [])
-different-push [] l d h = (refl, tt)
-different-push (x ∷ lits) l d h =
-    let parts = or_parts (eqb x.variable l.variable) (names lits l.variable) h in
-    (names-push lits l x.variable d.0 (eqb-sym l.variable x.variable ∙ parts.0), different-push lits l d.1 parts.1)
 
 pub known-push : (vars : ℕ) (lits : List Literal) (l : Literal) → AreKnown vars lits → IsKnown vars l → AreKnown vars (lits ++ l ∷ [])
 known-push vars [] l k h = (h, tt)

@@ -1,8 +1,8 @@
 -- A list of literals within another: what stays true, and what stays not false.
-use Rattle.std.proofs.Common.{◌≡◌, ℕ, ◌+◌, ◌≤◌, ◌⊎◌, Bool, true, false, not, ◌&&◌, cond, List, [], ◌∷◌, Option, None, Some, refl, sym, ap, subst, inl, inr, arith}
+use Rattle.std.proofs.Common.{◌≡◌, ℕ, ◌+◌, ◌≤◌, ◌⊎◌, Bool, true, false, not, ◌&&◌, cond, List, [], ◌∷◌, Option, None, Some, refl, sym, subst, inl, inr, arith}
 use Rattle.std.specs.List.{AllByRecursion}
 use Rattle.std.proofs.lemmas.Bool.{or_cases, cases_Bool, not_from_false, not-true}
-use Rattle.kn_logic.proofs.Public.{same_literal, places-le, not_twice}
+use Rattle.kn_logic.proofs.Public.{same_literal, places-le}
 use Rattle.kn_logic.specs.Literals.{Literal, negated, is_same, has}
 use Rattle.kn_logic.specs.Constraints.{Bounded}
 use Rattle.kn_logic.specs.Propagation.{is_open, open_places, has_unset, IsShort, IsShortUnder, LacksLiterals, IsConsistent}
@@ -11,12 +11,6 @@ use Rattle.kn_watch.specs.Watches.{true_in, IsReleased, IsSatisfied, NoneFalse, 
 -- each literal of the first list stands in the second
 abbrev pub Within : List Literal → List Literal → Type 0
 Within small large = (l : Literal) → has small l ≡ true → has large l ≡ true
-
-abbrev the_literal : ℕ → Bool → Literal
-the_literal v p = record { variable = v; positive = p }
-
-pub negated_twice : (l : Literal) → negated (negated l) ≡ l
-negated_twice l = ap (λ (p : Bool). the_literal l.variable p) (not_twice l.positive)
 
 pub within-same : (a b : List Literal) → a ≡ b → Within a b
 within-same a b e l h = subst (λ (x : List Literal). has x l ≡ true) e h

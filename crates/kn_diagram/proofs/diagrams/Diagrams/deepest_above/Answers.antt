@@ -1,5 +1,5 @@
-use Rattle.std.proofs.Common.{ℕ, ◌≡◌, ◌<◌, ◌≤◌, ◌∙◌, ap, sym, subst, arith, length, slice_index}
-use Rattle.kn_diagram.specs.Diagrams.{IsTable, depth_in}
+use Rattle.std.proofs.Common.{◌≡◌, ◌<◌, ◌≤◌, ◌∙◌, ap, sym, subst, arith, length, slice_index}
+use Rattle.kn_diagram.specs.Diagrams.{IsTable}
 use Rattle.kn_diagram.proofs.DependLemmas.{depth-depends, depth-ignores}
 use Rattle.kn_diagram.proofs.WideLemmas.{level-at}
 use Rattle.kn_diagram.proofs.diagrams.Diagrams.deepest_above.Goals as goal

@@ -1,4 +1,4 @@
-use Rattle.std.proofs.Common.{[], ◌∷◌, ◌++◌, cond, true, sym, ap, subst, ◌∙◌}
+use Rattle.std.proofs.Common.{[], ◌∷◌, ◌++◌, sym, ap, subst, ◌∙◌}
 use Rattle.kn_logic.specs.Literals.{IsKnown}
 use Rattle.kn_format.specs.Faults.{Reading}
 use Rattle.kn_format.proofs.Begun.{keeps_added, not_seen, joined}

@@ -1,6 +1,6 @@
 use Rattle.std.proofs.Common.{◌≡◌, true, rules}
+use Rattle.kn_logic.proofs.Public.{are_known-more}
 use Rattle.kn_rules.specs.Steps.{are_known}
-use Rattle.kn_rules.proofs.Extending.{are_known-more}
 use Rattle.kn_rules.proofs.Ready.{known-test}
 use Rattle.kn_rules.proofs.machine.Machine.count.Goals as goal
 
