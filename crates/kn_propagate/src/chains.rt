@@ -1,5 +1,5 @@
 //! The entries of watched places, one for each, chained by the literal that stands there.
-ghost use Rattle.std.specs.Prelude.{◌≡◌, ◌≢◌, ◌≤◌, ◌<◌, ◌+◌, ◌-◌, ◌*◌, ◌^◌, [], false, IfOk, IfSome, IsTrue, OnOk, length, replicate, slice_index_or, slice_set};
+ghost use Rattle.std.specs.Prelude.{◌≡◌, ◌≢◌, ◌≤◌, ◌<◌, ◌+◌, ◌-◌, ◌*◌, ◌^◌, [], false, IfOk, IfSome, IfNone, IsTrue, OnOk, length, replicate, slice_index_or, slice_set};
 ghost use Rattle.kn_propagate.specs.Chains.{code, spot_at, nobody, IsDrawn, AreSpare, IsUnused, hand_of, StandsIn, IsFound, heads_without, nexts_without, IsReleased};
 
 use crate::NoMemory;
@@ -249,7 +249,8 @@ impl Chains {
 
 // how many chains there are over so many variables: two of each, two that stay empty, and the hand
 fn count_of(vars: u64) -> Option<usize>
-    ensures { IfSome result (λ count. (count ≡ 2 * vars + 3) × (count < 2 ^ 64)) }
+    ensures some { IfSome result (λ count. (count ≡ 2 * vars + 3) × (count < 2 ^ 64)) }
+    ensures none { IfNone result (2 ^ 64 ≤ 2 * vars + 3) }
 {
     (vars as usize).checked_mul(2)?.checked_add(3)
 }

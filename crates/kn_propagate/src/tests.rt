@@ -634,19 +634,10 @@ fn going_back_keeps_the_lower_levels(rt: HostRuntime) -> Result<(), Fail> {
     Ok(())
 }
 
-// adds a constraint and removes the one that was added so many constraints before; whether it was there
-fn exchange(
-    alloc: Global,
-    trial: &mut Trial,
-    constraint: Constraint,
-    count: u64,
-) -> Result<bool, NoMemory> {
-    trial.add(alloc, constraint)?;
-    let id = trial.next.saturating_sub(1).saturating_sub(count);
-    if is_reason(trial.engine.trail(), id) {
-        return Ok(false);
-    }
-    Ok(trial.engine.remove(id))
+// removes the constraint after which so many were added; whether it was there
+fn remove_old(trial: &mut Trial, younger: u64) -> bool {
+    let id = trial.next.saturating_sub(1).saturating_sub(younger);
+    !is_reason(trial.engine.trail(), id) && trial.engine.remove(id)
 }
 
 #[test]
@@ -654,11 +645,11 @@ fn what_was_removed_leaves_its_room(rt: HostRuntime) -> Result<(), Fail> {
     let tally = Tally::new();
     let mut trial = small(rt.alloc(), &tally)?;
     for round in 0..100 {
-        let clause = at_least(rt.alloc(), 1, &[-1, 2, 5])?;
-        assert!(rt; exchange(rt.alloc(), &mut trial, clause, 3)?, "{}", round);
-        let klause = at_least(rt.alloc(), 2, &[-2, 3, 4])?;
-        assert!(rt; exchange(rt.alloc(), &mut trial, klause, 3)?, "{}", round);
+        trial.add(rt.alloc(), at_least(rt.alloc(), 1, &[-1, 2, 5])?)?;
+        trial.add(rt.alloc(), at_least(rt.alloc(), 2, &[-2, 3, 4])?)?;
+        assert!(rt; remove_old(&mut trial, 4), "{}", round);
+        assert!(rt; remove_old(&mut trial, 3), "{}", round);
     }
-    assert_eq!(rt; trial.engine.room(), (4, 10));
+    assert_eq!(rt; trial.engine.room(), (5, 13));
     Ok(())
 }
