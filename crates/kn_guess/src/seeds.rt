@@ -9,6 +9,7 @@ ghost use Rattle.kn_guess.specs.Seen.{IsSeen};
 ghost use Rattle.kn_guess.specs.Tables.{SeedTable, IsLeastSet, IsSeedTable, replaced};
 
 use crate::border::border;
+use crate::deep::deep;
 use crate::flag_set::FlagSet;
 use crate::flags::Flags;
 use crate::growing::least;
@@ -44,6 +45,7 @@ pub struct Seeds {
     from: u64,
     free: Flags,
     seeds: Flags,
+    deep: Flags,
     entries: Vec<Numbers>,
     members: Vec<Numbers>,
     set: FlagSet,
@@ -55,7 +57,7 @@ impl Model for Seeds {
 
     ghost Value = { SeedTable };
 
-    ghost view = { λ s. record { from = s.from; free = s.free; seeds = s.seeds; entries = s.entries.items; members = s.members.items } };
+    ghost view = { λ s. record { from = s.from; free = s.free; seeds = s.seeds; deep = s.deep; entries = s.entries.items; members = s.members.items } };
 }
 
 impl Seeds {
@@ -69,6 +71,7 @@ impl Seeds {
         Ok(Seeds {
             from: 1,
             seeds: seeds(alloc, store, &free, members.len())?,
+            deep: deep(alloc, store, &free, members.len())?,
             free,
             entries: entries(alloc, store)?,
             members,
@@ -92,6 +95,9 @@ impl Seeds {
         self.from = seed;
         if !self.seeds.is_up(seed) {
             return Err(NoGuess::NotSeed);
+        }
+        if self.deep.is_up(seed) {
+            return Err(NoGuess::TooMany);
         }
         let later = Later {
             seed,
@@ -118,6 +124,7 @@ impl Seeds {
         self.free.lower_lits(group.border());
         self.seeds.lower_lits(group.border());
         self.seeds.lower_all(group.aux());
+        self.deep.clear();
     }
 }
 
