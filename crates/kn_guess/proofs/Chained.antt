@@ -1,14 +1,14 @@
 -- Chains of variables that a least set has.
-use Rattle.std.proofs.Common.{◌≡◌, ℕ, zero, suc, ◌+◌, ◌-◌, ◌≤◌, ◌<◌, ◌==◌, ◌⊎◌, ◌||◌, ◌&&◌, inl, inr, Bool, true, false, not, List, [], ◌∷◌, length, set, get_or, slice_index, refl, sym, ap, subst, ◌∙◌, arith, true≢false}
+use Rattle.std.proofs.Common.{◌≡◌, ℕ, ◌+◌, ◌-◌, ◌≤◌, ◌<◌, ◌==◌, ◌⊎◌, ◌&&◌, inl, inr, Bool, true, false, not, List, [], ◌∷◌, set, get_or, slice_index, refl, sym, ap, subst, ◌∙◌, arith, true≢false}
 use Rattle.std.specs.List.{AllByRecursion}
-use Rattle.std.proofs.lemmas.Bool.{cases_eq, cases_lt, or_cases, eqb-true, eq-eqb, false_from_ne_true}
-use Rattle.std.proofs.lemmas.List.{get_or-set_same, get_or-set_other, get_or_past, length-set}
+use Rattle.std.proofs.lemmas.Bool.{cases_eq, or_cases, eqb-true, false_from_ne_true}
+use Rattle.std.proofs.lemmas.List.{get_or-set_other}
 use Rattle.kn_logic.specs.Constraints.{Bounded, named}
 use Rattle.kn_logic.specs.Literals.{names}
 use Rattle.kn_logic.specs.Groups.{is_among}
 use Rattle.kn_store.specs.Stores.{Stored, IsStored, constraints_of, ids_of, naming, constraint_at}
 use Rattle.kn_guess.specs.Guesses.{in_klause, share, IsClosedFrom}
-use Rattle.kn_guess.specs.Refusals.{AreApart, AreForced, IsTooMany}
+use Rattle.kn_guess.specs.Refusals.{IsTooMany}
 use Rattle.kn_guess.specs.Deep.{HasChain, IsReached, AreReached, IsOneOf}
 use Rattle.kn_guess.specs.Tables.{AreDeep}
 use Rattle.kn_guess.proofs.Elements.{and-both}

@@ -39,6 +39,27 @@ pub(crate) fn deep(
     Ok(deep)
 }
 
+// Flags that were lost come again where many sets were grown for nothing since they were made. As many as that
+// cost no less than the flags do.
+pub(crate) fn renew(
+    alloc: Global,
+    store: &Store,
+    free: &Flags,
+    end: usize,
+    flags: &mut Flags,
+    wasted: &mut u64,
+) -> Result<(), NoMemory>
+    requires free { IsSeen store.now free.now }
+    requires flags { AreDeep (constraints_of store.now.live) flags.old }
+    ensures { AreDeep (constraints_of store.now.live) flags.new }
+{
+    if flags.all().is_empty() && end as u64 / 128 < *wasted {
+        *flags = deep(alloc, store, free, end)?;
+        *wasted = 0;
+    }
+    Ok(())
+}
+
 // So many zeros.
 fn nothing(alloc: Global, end: usize) -> Result<Vec<u64>, NoMemory>
     ensures { IfOk result (λ best. best.items ≡ replicate end 0) }

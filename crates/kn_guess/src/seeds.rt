@@ -9,7 +9,7 @@ ghost use Rattle.kn_guess.specs.Seen.{IsSeen};
 ghost use Rattle.kn_guess.specs.Tables.{SeedTable, IsLeastSet, IsSeedTable, replaced};
 
 use crate::border::border;
-use crate::deep::deep;
+use crate::deep::{deep, renew};
 use crate::flag_set::FlagSet;
 use crate::flags::Flags;
 use crate::growing::least;
@@ -50,6 +50,7 @@ pub struct Seeds {
     members: Vec<Numbers>,
     set: FlagSet,
     met: FlagSet,
+    wasted: u64,
 }
 
 impl Model for Seeds {
@@ -77,6 +78,7 @@ impl Seeds {
             members,
             set: FlagSet::new(alloc),
             met: FlagSet::new(alloc),
+            wasted: 0,
         })
     }
 
@@ -96,6 +98,15 @@ impl Seeds {
         if !self.seeds.is_up(seed) {
             return Err(NoGuess::NotSeed);
         }
+        let end = self.members.len();
+        renew(
+            alloc,
+            store,
+            &self.free,
+            end,
+            &mut self.deep,
+            &mut self.wasted,
+        )?;
         if self.deep.is_up(seed) {
             return Err(NoGuess::TooMany);
         }
@@ -111,6 +122,7 @@ impl Seeds {
             &mut self.met,
             &later,
         )? {
+            self.wasted = self.wasted.saturating_add(1);
             return Err(NoGuess::TooMany);
         }
         bordered(alloc, store, &self.set, seed)

@@ -1,5 +1,4 @@
-use Rattle.std.proofs.Common.{ℕ, ◌⊎◌, slice_index, ◌≡◌, ◌≤◌, ◌<◌, ◌+◌, ◌-◌, Bool, not, true, false, subst, sym, ap, ◌∙◌, arith, refl}
-use Rattle.kn_logic.specs.Groups.{is_among}
+use Rattle.std.proofs.Common.{◌≡◌, ◌≤◌, ◌+◌, ◌-◌, true, false, subst, sym, ap, ◌∙◌, arith}
 use Rattle.kn_store.specs.Stores.{constraints_of}
 use Rattle.kn_guess.specs.Deep.{AreReached, IsOneOf, HasChain}
 use Rattle.kn_guess.specs.Guesses.{in_klause}
