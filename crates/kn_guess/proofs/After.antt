@@ -343,8 +343,8 @@ near-after s g bound from entries members taking low h = record {
         one (inr h) more = or_right (names (named c) x) (in_some es x) (more h)
 
 pub table-taken : (s : Stored) (seed bound : ℕ) (g : Gathered) (ids : List ℕ) (t u : SeedTable) → IsStored s → IsSeedTable s t → IsSeedGuess s seed g ids → 2 ≤ bound → AllByRecursion (λ v. 1 ≤ v) g.aux
-    → u.from ≡ t.from → u.entries ≡ t.entries → u.members ≡ t.members → u.free ≡ lowered t.free (map (λ l. l.variable) g.border) → u.seeds ≡ lowered (lowered t.seeds (map (λ l. l.variable) g.border)) g.aux → IsSeedTable (after s g bound) u
-table-taken s seed bound g ids t u stored h guess low counted from-is entries-is members-is free-is seeds-is = record {
+    → u.from ≡ t.from → u.entries ≡ t.entries → u.members ≡ t.members → u.free ≡ lowered t.free (map (λ l. l.variable) g.border) → u.seeds ≡ lowered (lowered t.seeds (map (λ l. l.variable) g.border)) g.aux → u.deep ≡ [] → IsSeedTable (after s g bound) u
+table-taken s seed bound g ids t u stored h guess low counted from-is entries-is members-is free-is seeds-is deep-is = record {
   seen = record {
     long = ap length free-is ∙ lowered-long t.free vs ∙ h.seen.long;
     says = λ x from to.
@@ -357,6 +357,7 @@ table-taken s seed bound g ids t u stored h guess low counted from-is entries-is
       ap (λ z. get_or z (x - 1) false) seeds-is ∙ lowered-is (lowered t.seeds vs) g.aux x counted from
       ∙ ap (λ a. a && not (is_among g.aux x)) (lowered-is t.seeds vs x border from ∙ ap₂ (λ a b. a && not b) (h.tested x from to) (names-among g.border x))
       ∙ sym (seed-after s g bound x taking low);
+  deep = λ x low up. absurd (true≢false (sym up ∙ ap (λ z. get_or z (x - 1) false) deep-is));
   near = subst (λ n. IsNear (after s g bound) n u.entries u.members) (sym from-is)
       (subst (λ z. IsNear (after s g bound) t.from z u.members) (sym entries-is) (subst (IsNear (after s g bound) t.from t.entries) (sym members-is) (near-after s g bound t.from t.entries t.members taking low h.near)));
 }

@@ -108,13 +108,13 @@ share-known s x z stored e =
     both P Q (c ∷ cs) a b = ((a.0, b.0), both P Q cs a.1 b.1)
 
 -- the id of a constraint that names a variable
-id-of : (s : Stored) (x id : ℕ) → IsStored s → is_among (ids_of (naming x s.live)) id ≡ true → (p : Numbered) × (p.id ≡ id) × (names (named p.constraint) x ≡ true) × IsLive s p
+pub id-of : (s : Stored) (x id : ℕ) → IsStored s → is_among (ids_of (naming x s.live)) id ≡ true → (p : Numbered) × (p.id ≡ id) × (names (named p.constraint) x ≡ true) × IsLive s p
 id-of s x id stored i =
     let q = any-with (IsLive s) (λ p. (p.id == id) && names (named p.constraint) x) s.live (all-live s stored) (sym (among-chosen s (λ c. names (named c) x) id) ∙ i) in
     let both = and_parts (q.0.id == id) (names (named q.0.constraint) x) q.1 in
     (q.0, eqb-true q.0.id id both.0, both.1, q.2)
 
-same-some : (a b : Bounded) (o : Option Bounded) → o ≡ Some a → o ≡ Some b → a ≡ b
+pub same-some : (a b : Bounded) (o : Option Bounded) → o ≡ Some a → o ≡ Some b → a ≡ b
 same-some a b o e f = one (sym e ∙ f)
   where
     one : Some a ≡ Some b → a ≡ b

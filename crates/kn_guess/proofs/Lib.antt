@@ -19,3 +19,4 @@ mod Walked
 mod Swapped
 mod Built
 mod Marked
+pub mod Chained

@@ -8,3 +8,4 @@ pub mod Walks
 pub mod Tables
 pub mod Pairing
 pub use Rattle.kn_store.specs.Stores
+pub mod Deep

@@ -8,6 +8,7 @@ use Rattle.kn_logic.specs.Constraints.{Bounded, named}
 use Rattle.kn_logic.specs.Groups.{is_pair_of, has_pair}
 use Rattle.kn_store.specs.Stores.{Numbered, Stored, constraints_of, constraint_at}
 use Rattle.kn_guess.specs.Guesses.{in_klause, share, is_seed, IsLeastFrom, candidates}
+use Rattle.kn_guess.specs.Refusals.{IsTooMany}
 use Rattle.kn_guess.specs.Seen.{IsSeen}
 use Rattle.kn_guess.specs.Walks.{kept, is_near}
 
@@ -20,12 +21,13 @@ abbrev pub in_some : List Bounded → ℕ → Bool
 in_some cs x = list_any (λ c. names (named c) x) cs
 
 -- For each variable, that of variable 1 first: whether it stands in no klause, whether it passes the test of a
--- seed, and ids of constraints that name it; for each id, that of id 0 first, variables that its constraint names.
--- No seed below `from` is asked any more.
+-- seed, whether its least set is known to have too many variables, and ids of constraints that name it; for each
+-- id, that of id 0 first, variables that its constraint names. No seed below `from` is asked any more.
 pub record SeedTable : Type 0 where
   pub from : ℕ
   pub free : List Bool
   pub seeds : List Bool
+  pub deep : List Bool
   pub entries : List (List ℕ)
   pub members : List (List ℕ)
 
@@ -35,6 +37,10 @@ pub record IsNear (s : Stored) (from : ℕ) (entries members : List (List ℕ)) 
   pub placed : (x : ℕ) → 1 ≤ x → AllByRecursion (λ k. k < length members) (kept entries (x - 1))
   pub sound : (x z : ℕ) → 1 ≤ x → in_klause (constraints_of s.live) x ≡ false → in_some (constraints_of s.live) x ≡ true → is_near members (kept entries (x - 1)) z ≡ true → share (constraints_of s.live) x z ≡ true
   pub complete : (x z : ℕ) → 1 ≤ x → in_klause (constraints_of s.live) x ≡ false → from < z → in_klause (constraints_of s.live) z ≡ false → share (constraints_of s.live) x z ≡ true → is_near members (kept entries (x - 1)) z ≡ true
+
+-- the least sets of the variables whose flags are up have too many
+abbrev pub AreDeep : List Bounded → List Bool → Type 0
+AreDeep cs flags = (x : ℕ) → 1 ≤ x → slice_index_or flags (x - 1) false ≡ true → IsTooMany cs x
 
 -- the least set of a seed, where it has at most 256 variables
 pub record IsLeastSet (s : Stored) (seed : ℕ) (set : List ℕ) : Type 0 where
@@ -48,6 +54,7 @@ pub record IsSeedTable (s : Stored) (t : SeedTable) : Type 0 where
   pub seen : IsSeen s t.free
   pub long : length t.seeds ≡ s.vars
   pub tested : (x : ℕ) → 1 ≤ x → x ≤ s.vars → slice_index_or t.seeds (x - 1) false ≡ is_seed (constraints_of s.live) x
+  pub deep : AreDeep (constraints_of s.live) t.deep
   pub near : IsNear s t.from t.entries t.members
 
 -- a literal that stands with another in a binary clause, and the id of one such clause

@@ -1,5 +1,7 @@
 //! Why a seed has no guess. The tests have an order, so that a seed has one answer, however it is found.
 use kn_logic::NoMemory;
+use std::error::Error;
+use std::fmt;
 
 /// Why a variable has no guess: the first test that fails, in this order, or want of memory.
 #[derive(Clone, Copy, Debug, PartialEq, Eq)]
@@ -17,6 +19,21 @@ pub enum NoGuess {
     /// Memory is short.
     Memory,
 }
+
+impl fmt::Display for NoGuess {
+    fn fmt<W: fmt::Write>(&self, f: &mut fmt::Formatter<W>) -> fmt::Result {
+        f.write_str(match self {
+            NoGuess::NotSeed => "the variable is no seed",
+            NoGuess::TooMany => "the least set has more than 256 variables",
+            NoGuess::SmallBorder => "fewer than 3 variables stand at the border",
+            NoGuess::TooWideBorder => "more than 128 variables stand at the border",
+            NoGuess::TwoSided { .. } => "a variable stands at the border in both polarities",
+            NoGuess::Memory => "memory is short",
+        })
+    }
+}
+
+impl Error for NoGuess {}
 
 impl From<NoMemory> for NoGuess {
     ghost use Rattle.std.specs.Prelude.{◌≡◌};

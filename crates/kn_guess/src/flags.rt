@@ -79,6 +79,13 @@ impl Flags {
         }
     }
 
+    // No variable has a flag any more.
+    pub(crate) fn clear(&mut self)
+        ensures { self.new ≡ [] }
+    {
+        self.all.clear();
+    }
+
     pub(crate) fn lower_all(&mut self, vars: &[u64])
         requires { AllByRecursion (λ v. 1 ≤ v) vars.now }
         ensures { self.new ≡ lowered self.old vars.now }

@@ -6,6 +6,7 @@
 mod binary;
 mod border;
 mod covering;
+mod deep;
 mod error; // `NoGuess`
 mod flag_set;
 mod flags;

@@ -10,6 +10,7 @@ ghost use Rattle.kn_guess.specs.Seen.{IsSeen};
 ghost use Rattle.kn_guess.specs.Tables.{SeedTable, IsLeastSet, IsSeedTable, replaced};
 
 use crate::border::border;
+use crate::deep::{deep, renew};
 use crate::flag_set::FlagSet;
 use crate::flags::Flags;
 use crate::growing::least;
@@ -45,10 +46,12 @@ pub struct Seeds {
     from: u64,
     free: Flags,
     seeds: Flags,
+    deep: Flags,
     entries: Vec<Numbers>,
     members: Vec<Numbers>,
     set: FlagSet,
     met: FlagSet,
+    wasted: u64,
 }
 
 impl Model for Seeds {
@@ -56,7 +59,7 @@ impl Model for Seeds {
 
     ghost Value = { SeedTable };
 
-    ghost view = { λ s. record { from = s.from; free = s.free; seeds = s.seeds; entries = s.entries.items; members = s.members.items } };
+    ghost view = { λ s. record { from = s.from; free = s.free; seeds = s.seeds; deep = s.deep; entries = s.entries.items; members = s.members.items } };
 }
 
 impl Seeds {
@@ -70,11 +73,13 @@ impl Seeds {
         Ok(Seeds {
             from: 1,
             seeds: seeds(alloc, store, &free, members.len())?,
+            deep: deep(alloc, store, &free, members.len())?,
             free,
             entries: entries(alloc, store)?,
             members,
             set: FlagSet::new(alloc),
             met: FlagSet::new(alloc),
+            wasted: 0,
         })
     }
 
@@ -94,6 +99,18 @@ impl Seeds {
         if !self.seeds.is_up(seed) {
             return Err(NoGuess::NotSeed);
         }
+        let end = self.members.len();
+        renew(
+            alloc,
+            store,
+            &self.free,
+            end,
+            &mut self.deep,
+            &mut self.wasted,
+        )?;
+        if self.deep.is_up(seed) {
+            return Err(NoGuess::TooMany);
+        }
         let later = Later {
             seed,
             free: self.free.all(),
@@ -106,6 +123,7 @@ impl Seeds {
             &mut self.met,
             &later,
         )? {
+            self.wasted = self.wasted.saturating_add(1);
             return Err(NoGuess::TooMany);
         }
         bordered(alloc, store, &self.set, seed)
@@ -119,6 +137,7 @@ impl Seeds {
         self.free.lower_lits(group.border());
         self.seeds.lower_lits(group.border());
         self.seeds.lower_all(group.aux());
+        self.deep.clear();
     }
 }
 

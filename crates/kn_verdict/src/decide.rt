@@ -1,4 +1,5 @@
-//! From a group to its verdict: its clauses are eliminated and the result is measured; a count has no diagram here.
+//! From a group to its verdict. A small one is decided by its truth table; else its clauses are eliminated, and two numbers of
+//! each node of the result tell whether it is a count.
 ghost use Rattle.std.specs.Prelude.{◌≡◌, ◌≤◌, ◌+◌, length, IfOk};
 ghost use Rattle.kn_quant.specs.Eliminations.{IsEliminationOf};
 ghost use Rattle.kn_verdict.specs.Cardinals.{IsCardinal, IsNarrow};

@@ -11,5 +11,6 @@ returns-clause-table c =
       seen = subst (IsSeen c.args.store.now) (sym c.free-2.view_is) c.in_ok-free.ensures;
       long = c.in_ok-seeds.ensures.long;
       tested = c.in_ok-seeds.ensures.tested;
+      deep = c.in_ok-deep.ensures;
       near = near-first c.args.store.now 1 c.in_ok-entries.field-0.items c.in_ok-members.members.items entries.stored entries.long entries.ids members.placed members.named members.known;
     }
