@@ -1,7 +1,7 @@
 -- Chains of variables that a least set has.
 use Rattle.std.proofs.Common.{◌≡◌, ℕ, ◌+◌, ◌-◌, ◌≤◌, ◌<◌, ◌==◌, ◌⊎◌, ◌&&◌, inl, inr, Bool, true, false, not, List, [], ◌∷◌, set, get_or, slice_index, refl, sym, ap, subst, ◌∙◌, arith, true≢false}
 use Rattle.std.specs.List.{AllByRecursion}
-use Rattle.std.proofs.lemmas.Bool.{cases_eq, or_cases, eqb-true, false_from_ne_true}
+use Rattle.std.proofs.lemmas.Bool.{cases_eq, or_cases, eqb-true, false_from_ne_true, and_from}
 use Rattle.std.proofs.lemmas.List.{get_or-set_other}
 use Rattle.kn_logic.specs.Constraints.{Bounded, named}
 use Rattle.kn_logic.specs.Literals.{names}
@@ -11,7 +11,6 @@ use Rattle.kn_guess.specs.Guesses.{in_klause, share, IsClosedFrom}
 use Rattle.kn_guess.specs.Refusals.{IsTooMany}
 use Rattle.kn_guess.specs.Deep.{HasChain, IsReached, AreReached, IsOneOf}
 use Rattle.kn_guess.specs.Tables.{AreDeep}
-use Rattle.kn_guess.proofs.Elements.{and-both}
 use Rattle.kn_guess.proofs.Built.{id-of, same-some}
 
 -- two variables that the constraint of one id names
@@ -20,7 +19,7 @@ share-by_id s x z id stored i j =
     let p = id-of s x id stored i in
     let r = id-of s z id stored j in
     let same = same-some p.0.constraint r.0.constraint (constraint_at s.live id) (ap (constraint_at s.live) (sym p.1) ∙ p.3.own) (ap (constraint_at s.live) (sym r.1) ∙ r.3.own) in
-    p.3.some (λ c. names (named c) x && names (named c) z) (and-both (names (named p.0.constraint) x) (names (named p.0.constraint) z) p.2 (ap (λ c. names (named c) z) same ∙ r.2))
+    p.3.some (λ c. names (named c) x && names (named c) z) (and_from (names (named p.0.constraint) x) (names (named p.0.constraint) z) p.2 (ap (λ c. names (named c) z) same ∙ r.2))
 
 head-only : (x y : ℕ) → is_among (y ∷ []) x ≡ true → y ≡ x
 head-only x y i = by (or_cases (y == x) false i)

@@ -22,14 +22,17 @@ pub enum NoGuess {
 
 impl fmt::Display for NoGuess {
     fn fmt<W: fmt::Write>(&self, f: &mut fmt::Formatter<W>) -> fmt::Result {
-        f.write_str(match self {
-            NoGuess::NotSeed => "the variable is no seed",
-            NoGuess::TooMany => "the least set has more than 256 variables",
-            NoGuess::SmallBorder => "fewer than 3 variables stand at the border",
-            NoGuess::TooWideBorder => "more than 128 variables stand at the border",
-            NoGuess::TwoSided { .. } => "a variable stands at the border in both polarities",
-            NoGuess::Memory => "memory is short",
-        })
+        match self {
+            NoGuess::NotSeed => write!(f, "the variable is no seed"),
+            NoGuess::TooMany => write!(f, "the least set has more than 256 variables"),
+            NoGuess::SmallBorder => write!(f, "fewer than 3 variables stand at the border"),
+            NoGuess::TooWideBorder => write!(f, "more than 128 variables stand at the border"),
+            NoGuess::TwoSided { var } => write!(
+                f,
+                "variable {var} stands at the border in both polarities"
+            ),
+            NoGuess::Memory => write!(f, "memory is short"),
+        }
     }
 }
 
