@@ -1,8 +1,8 @@
 -- The diagram of a clause is a chain: at each node one half is always true. So from "not the root" the definitions'
 -- clauses give the negation of each literal in turn, and the clause is in conflict.
-use Rattle.std.proofs.Common.{◌≡◌, ℕ, zero, suc, ◌+◌, ◌≤◌, ◌<◌, ◌==◌, ◌&&◌, ◌||◌, ◌⊎◌, ◌++◌, Bool, true, false, not, if◌then◌else◌, cond, ltb, eqb, map, List, [], ◌∷◌, length, filter, slice_index, Option, Some, None, append_assoc, refl, sym, ap, ◌∙◌, subst, inl, inr, arith}
+use Rattle.std.proofs.Common.{◌≡◌, ℕ, zero, suc, ◌+◌, ◌≤◌, ◌<◌, ◌==◌, ◌&&◌, ◌||◌, ◌⊎◌, ◌++◌, Bool, true, false, not, if◌then◌else◌, cond, ltb, eqb, map, List, [], ◌∷◌, filter, slice_index, Option, Some, None, append_assoc, refl, sym, ap, ◌∙◌, subst, inl, inr, arith}
 use Rattle.std.specs.List.{list_any}
-use Rattle.std.proofs.lemmas.Bool.{cases_Bool, or_cases, or_left, or_right, or_parts, cond-true, cond-false, eq-eqb, eqb-true}
+use Rattle.std.proofs.lemmas.Bool.{cases_Bool, or_cases, or_left, or_right, cond-true, cond-false, eq-eqb, eqb-true}
 use Rattle.kn_logic.specs.Literals.{Literal, negated, is_same, has}
 use Rattle.kn_logic.specs.Constraints.{Bounded, clause}
 use Rattle.kn_logic.specs.Propagation.{is_open, open_places, hint_run}
@@ -11,16 +11,16 @@ use Rattle.kn_lines.specs.declared.line.Arm.{Arm}
 use Rattle.kn_lines.specs.declared.line.Arm.TheVariants as arm
 use Rattle.kn_rules.specs.declared.given.Given.{Given}
 use Rattle.kn_rules.specs.States.{ProofState, live_at}
-use Rattle.kn_rules.specs.Steps.{opposite, hinted}
-use Rattle.kn_diagram.specs.Diagrams.{Table, IsTable, IsNode, HasNodes, IsBranch, function_of, depth_of, high_of, low_of, high_at, low_at, is_true_by, with_value}
+use Rattle.kn_rules.specs.Steps.{opposite}
+use Rattle.kn_diagram.specs.Diagrams.{Table, IsTable, IsNode, IsBranch, function_of, depth_of, high_of, low_of, is_true_by, with_value}
 use Rattle.kn_diagram.proofs.Public.{canonical, has_nodes, branch-is, depth_of-branch, high-function, low-function}
-use Rattle.kn_justify.specs.Arms.{HasArm, Has, IsSound, run_on, AllRefuted, Settles, Refutes, Settled, Refuted, has_true, literals_of}
+use Rattle.kn_justify.specs.Arms.{Has, IsSound, run_on, AllRefuted, Settles, Settled, Refuted, has_true, literals_of}
 use Rattle.kn_logic.proofs.Public.{same_literal, same-refl}
 use Rattle.kn_justify.proofs.ArmLemmas.{has_true_arm, twice, shut_places, run-keeps, run-append}
 use Rattle.kn_justify.proofs.HintLemmas.{hinted-append}
 use Rattle.kn_justify.proofs.DefinitionLemmas.{high-up, low-up}
 use Rattle.kn_justify.specs.declared.name.Name.{Name}
-use Rattle.kn_justify.specs.Names.{name_of, positive_of, arm_at, test_of, IsRightName}
+use Rattle.kn_justify.specs.Names.{name_of, arm_at, test_of, IsRightName}
 use Rattle.kn_justify.specs.Chains.{Chain}
 use Rattle.kn_justify.proofs.NameLemmas.{arm_named}
 

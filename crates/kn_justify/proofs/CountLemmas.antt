@@ -1,31 +1,30 @@
 -- The klause of an elimination: its result is the diagram of a count over the border, and the line of the klause steps.
-use Rattle.std.proofs.Common.{◌≡◌, ℕ, zero, suc, ◌+◌, ◌-◌, ◌≤◌, ◌<◌, ◌==◌, ◌||◌, ◌⊎◌, ◌↔◌, ◌++◌, inl, inr, Bool, true, false, not, if◌then◌else◌, cond, leb, List, [], ◌∷◌, length, map, reverse, nat_le, slice_index, get_or, Option, Some, None, Result, Ok, Err, refl, sym, ap, ◌∙◌, subst, arith, append_assoc, length-append}
-use Rattle.std.specs.List.{AllByRecursion, list_any}
+use Rattle.std.proofs.Common.{◌≡◌, ℕ, suc, ◌+◌, ◌-◌, ◌≤◌, ◌<◌, ◌==◌, ◌||◌, ◌⊎◌, ◌↔◌, ◌++◌, inl, inr, Bool, true, false, not, if◌then◌else◌, cond, List, [], ◌∷◌, length, map, reverse, nat_le, slice_index, get_or, Option, Some, Result, Ok, Err, refl, sym, ap, ◌∙◌, subst, arith, length-append}
+use Rattle.std.specs.List.{AllByRecursion}
 use Rattle.std.specs.Result.{IsOk}
-use Rattle.std.proofs.lemmas.Bool.{cases_Bool, cases_eq, cases_lt, cond-true, ne_eqb, eq-eqb, and_from, and_parts, le-leb, lt-leb, true≢false}
+use Rattle.std.proofs.lemmas.Bool.{cases_eq, cases_lt, cond-true, ne_eqb, eq-eqb, and_from, and_parts, le-leb, lt-leb, true≢false}
 use Rattle.std.proofs.lemmas.List.{length-reverse, get_or-reverse, get_or-append_right, get_or-map, length-map, reverse-append}
 use Rattle.std.proofs.lemmas.List.Folds.{list_any-append, list_any_at, list_any_none}
 use Rattle.std.proofs.lemmas.List.Kept.{AllPairs-from_increasing}
 use Rattle.indexmap.proofs.ReorderLemmas.{map-reverse}
-use Rattle.kn_logic.specs.Literals.{Literal, negated, names, places, AreDifferent, IsKnown, AreKnown}
+use Rattle.kn_logic.specs.Literals.{Literal, names, places, AreDifferent, IsKnown, AreKnown}
 use Rattle.kn_logic.specs.Constraints.{Bounded, clause, klause}
 use Rattle.kn_logic.specs.Groups.{Gathered, IsGroup, is_among}
-use Rattle.kn_logic.proofs.Public.{same-refl, different-push}
+use Rattle.kn_logic.proofs.Public.{different-push}
 use Rattle.kn_lines.specs.declared.line.Arm.{Arm}
 use Rattle.kn_lines.specs.declared.line.Arm.TheVariants as arm
 use Rattle.kn_rules.specs.declared.given.Origin.TheVariants as origin
 use Rattle.kn_rules.specs.Grids.{stands_for, is_root}
 use Rattle.kn_rules.specs.States.{ProofState, definition_of, live_at}
-use Rattle.kn_rules.specs.Steps.{are_known, is_known_variable, are_different, is_unit, if_unit, count, with_one}
+use Rattle.kn_rules.specs.Steps.{are_known, are_different, is_unit, if_unit, count, with_one}
 use Rattle.kn_diagram.specs.Diagrams.{Table, IsTable, IsNode, with_value, function_of, depth_of, is_true_by}
 use Rattle.kn_diagram.proofs.Public.{not_above, is-branch}
-use Rattle.kn_quant.specs.Runs.{order_of}
 use Rattle.kn_quant.specs.Eliminations.{Eliminated, IsEliminationOf}
 use Rattle.kn_justify.specs.declared.name.Name.{Name}
 use Rattle.kn_justify.specs.Arms.{literals_of}
-use Rattle.kn_justify.specs.Names.{name_of, positive_of, arm_at, HasNames, IsUnit}
+use Rattle.kn_justify.specs.Names.{name_of, positive_of, HasNames, IsUnit}
 use Rattle.kn_justify.specs.Counts.{IsCount}
-use Rattle.kn_justify.specs.Taken.{CountsBorder, klause_of}
+use Rattle.kn_justify.specs.Taken.{CountsBorder}
 use Rattle.kn_justify.proofs.NameLemmas.{arm_named, has-own, name-right}
 use Rattle.kn_justify.proofs.GridLemmas.{count-stands, at_depth, within}
 

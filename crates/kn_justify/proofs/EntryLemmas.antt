@@ -1,7 +1,7 @@
 -- The entries of a join: those that are closed need no line, the others rest on their children.
-use Rattle.std.proofs.Common.{◌≡◌, ℕ, zero, suc, ◌+◌, ◌≤◌, ◌<◌, ◌==◌, ◌&&◌, ◌||◌, ◌⊎◌, ◌++◌, Bool, true, false, not, List, [], ◌∷◌, length, min, nat_eq, slice_index, Option, Some, None, refl, sym, ap, ◌∙◌, subst, inl, inr, arith}
+use Rattle.std.proofs.Common.{◌≡◌, ℕ, zero, suc, ◌+◌, ◌≤◌, ◌<◌, ◌==◌, ◌&&◌, ◌||◌, ◌⊎◌, ◌++◌, Bool, true, false, List, [], ◌∷◌, length, nat_eq, Option, Some, refl, sym, ap, ◌∙◌, subst, inl, inr, arith}
 use Rattle.std.specs.Prelude.{option_to_list}
-use Rattle.std.proofs.lemmas.Bool.{or_left, or_right, cases_lt, and_parts, eqb-true, cond-false, ne_eqb}
+use Rattle.std.proofs.lemmas.Bool.{or_left, or_right, and_parts, eqb-true, cond-false, ne_eqb}
 use Rattle.kn_logic.specs.Literals.{Literal, negated, is_same}
 use Rattle.kn_logic.proofs.Public.{same-refl, negated_twice}
 use Rattle.kn_lines.specs.declared.line.Arm.{Arm}
@@ -10,7 +10,7 @@ use Rattle.kn_rules.specs.declared.given.Given.{Given}
 use Rattle.kn_rules.specs.States.{ProofState}
 use Rattle.kn_rules.specs.Steps.{opposite}
 use Rattle.kn_diagram.specs.declared.trace.Met.{Met}
-use Rattle.kn_diagram.specs.Diagrams.{Table, IsTable, IsNode, HasNodes, function_of, depth_of, high_of, low_of, high_at, low_at}
+use Rattle.kn_diagram.specs.Diagrams.{Table, IsTable, IsNode, function_of, depth_of, high_of, low_of, high_at, low_at}
 use Rattle.kn_diagram.specs.Traces.{IsRight}
 use Rattle.kn_diagram.proofs.Public.{canonical, has_nodes, depth_of-branch, high-is, low-is}
 use Rattle.kn_justify.specs.declared.name.Name.{Name}
@@ -18,7 +18,7 @@ use Rattle.kn_justify.specs.declared.side.Side.{Side}
 use Rattle.kn_justify.specs.declared.side.Side.TheVariants.{Both, Left, Right}
 use Rattle.kn_justify.specs.Arms.{Settled, is_trivial}
 use Rattle.kn_justify.specs.Names.{arm_at, HasName, pair_arms, high_met, low_met, IsNamedMet}
-use Rattle.kn_justify.specs.Lemmas.{lemma_of, alone, entry_with, seen, joined, IsJoined, AreJoined, IsOpen, IsClosed, depth_at, HasChildren}
+use Rattle.kn_justify.specs.Lemmas.{lemma_of, alone, seen, joined, IsJoined, AreJoined, IsOpen, IsClosed, depth_at}
 use Rattle.kn_justify.proofs.HintLemmas.{trivial-settled}
 use Rattle.kn_justify.proofs.LookupLemmas.{lookup-holds}
 

@@ -1,8 +1,7 @@
 -- The diagram of "at least so many of these literals", which stand in the order of the diagram, is the grid of the
 -- count: two reduced diagrams of one function in one order are equal.
-use Rattle.std.proofs.Common.{◌≡◌, ℕ, zero, suc, ◌+◌, ◌-◌, ◌≤◌, ◌<◌, ◌==◌, ◌&&◌, ◌||◌, ◌⊎◌, ◌++◌, Bool, true, false, not, if◌then◌else◌, cond, eqb, leb, ltb, List, [], ◌∷◌, length, map, nat_le, nat_lt, slice_index, Option, Some, None, refl, sym, ap, ◌∙◌, subst, inl, inr, arith, append_assoc, length-append}
-use Rattle.std.specs.Option.{option_map_or}
-use Rattle.std.proofs.lemmas.Bool.{cases_Bool, cases_lt, cases_eq, cond-true, cond-false, eqb-true, eqb-false, eq-eqb, ne_eqb, and_from, or_left, or_right, or_parts, leb-true, leb-false, le-leb, lt-leb, ltb-true, ltb-false, lt-ltb, le-ltb}
+use Rattle.std.proofs.Common.{◌≡◌, ℕ, ◌+◌, ◌-◌, ◌≤◌, ◌<◌, ◌==◌, ◌&&◌, ◌||◌, ◌⊎◌, ◌++◌, Bool, true, false, not, if◌then◌else◌, cond, leb, List, [], ◌∷◌, length, map, nat_le, nat_lt, slice_index, Option, Some, None, refl, sym, ap, ◌∙◌, subst, inl, inr, arith, append_assoc, length-append}
+use Rattle.std.proofs.lemmas.Bool.{cases_lt, cases_eq, cond-true, cond-false, eq-eqb, ne_eqb, and_from, or_left, or_right, or_parts, le-leb, lt-leb, lt-ltb, le-ltb}
 use Rattle.kn_logic.specs.Literals.{Literal, negated, is_same, names, places, AreDifferent}
 use Rattle.kn_lines.specs.declared.line.Arm.{Arm}
 use Rattle.kn_lines.specs.declared.line.Arm.TheVariants as arm
@@ -10,12 +9,12 @@ use Rattle.kn_counter.specs.Grids.{cell_of}
 use Rattle.kn_counter.specs.declared.grid.Cell.{Cell}
 use Rattle.kn_counter.specs.declared.grid.Cell.TheVariants as cell
 use Rattle.kn_rules.specs.declared.definition.Definition.{Definition}
-use Rattle.kn_rules.specs.Grids.{is_true_arm, is_false_arm, variable_of, splits, stands_as, led_to, stands_for}
+use Rattle.kn_rules.specs.Grids.{variable_of, splits, stands_as, led_to, stands_for}
 use Rattle.kn_rules.specs.States.{ProofState, definition_of}
-use Rattle.kn_diagram.specs.Diagrams.{Table, IsTable, IsNode, HasNodes, IsSplit, function_of, depth_of, high_of, low_of, high_at, low_at, is_true_by, with_value}
+use Rattle.kn_diagram.specs.Diagrams.{Table, IsTable, function_of, depth_of, high_of, low_of, high_at, low_at, is_true_by, with_value}
 use Rattle.kn_diagram.proofs.Public.{canonical, has_nodes, is-branch, split-at, high-function, low-function}
 use Rattle.kn_justify.specs.declared.name.Name.{Name}
-use Rattle.kn_justify.specs.Names.{positive_of, arm_at, test_of, HasNames}
+use Rattle.kn_justify.specs.Names.{positive_of, arm_at, HasNames}
 use Rattle.kn_justify.specs.Counts.{IsCount}
 use Rattle.kn_justify.proofs.NameLemmas.{arm_named, has-own, has-high, has-low}
 

@@ -1,6 +1,5 @@
 -- The variables of an order that are known, and entries whose nodes have names.
-use Rattle.std.proofs.Common.{◌≡◌, ℕ, zero, suc, ◌+◌, ◌≤◌, ◌<◌, ◌++◌, Bool, true, List, [], ◌∷◌, length, take, get_or, Option, Some, Result, Ok, Err, OnOk, refl, sym, ap, ◌∙◌, subst, arith}
-use Rattle.std.specs.List.{AllByRecursion}
+use Rattle.std.proofs.Common.{◌≡◌, ℕ, ◌+◌, ◌≤◌, ◌<◌, ◌++◌, Bool, List, [], ◌∷◌, length, take, get_or, Result, Ok, Err, OnOk, sym, ap, ◌∙◌, subst, arith}
 use Rattle.std.proofs.lemmas.List.{take_more}
 use Rattle.kn_logic.proofs.Public.{All-push}
 use Rattle.kn_rules.specs.States.{ProofState}
@@ -10,7 +9,7 @@ use Rattle.kn_diagram.specs.Traces.{AreExplained}
 use Rattle.kn_diagram.proofs.Public.{depth_of-branch}
 use Rattle.kn_quant.specs.Quantified.{AreAccounted}
 use Rattle.kn_justify.specs.declared.name.Name.{Name}
-use Rattle.kn_justify.specs.Names.{IsNamed, AreRight, AreKept, AreReachedKnown, IsNamedMet}
+use Rattle.kn_justify.specs.Names.{IsNamed, AreRight, AreKept, AreReachedKnown}
 use Rattle.kn_justify.specs.Lemmas.{AreNamed}
 use Rattle.kn_justify.specs.Taken.{IsOrderKnown, AreThere, AreAllNamed}
 use Rattle.kn_justify.proofs.NameLemmas.{has-name}

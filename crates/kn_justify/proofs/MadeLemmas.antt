@@ -1,6 +1,6 @@
 -- The stages of an elimination can be made in turn: each node of them is true at values that satisfy the clauses, so
 -- that none is "false", and begins with nodes whose units are made before.
-use Rattle.std.proofs.Common.{◌≡◌, ℕ, zero, suc, ◌+◌, ◌≤◌, ◌<◌, ◌==◌, ◌&&◌, ◌||◌, ◌⊎◌, ◌++◌, inl, inr, Bool, true, false, cond, List, [], ◌∷◌, length, map, reverse, take, slice_get, slice_index, Option, Some, None, refl, sym, ap, ◌∙◌, subst, arith, append_assoc}
+use Rattle.std.proofs.Common.{◌≡◌, ℕ, zero, suc, ◌+◌, ◌≤◌, ◌<◌, ◌==◌, ◌&&◌, ◌||◌, ◌⊎◌, ◌++◌, inl, inr, Bool, true, false, List, [], ◌∷◌, length, map, reverse, take, slice_get, slice_index, Option, Some, None, refl, sym, ap, ◌∙◌, subst, arith, append_assoc}
 use Rattle.std.specs.List.{AllByRecursion, list_any}
 use Rattle.std.specs.Prelude.{IsSome}
 use Rattle.std.specs.Option.{is_none}
@@ -8,7 +8,7 @@ use Rattle.std.proofs.lemmas.Bool.{and_parts, and_from, or_cases, or_left, or_ri
 use Rattle.std.specs.Result.{IsOk}
 use Rattle.std.proofs.lemmas.List.{append-nil, reverse-append, length-reverse}
 use Rattle.std.proofs.lemmas.Option.{same_Some}
-use Rattle.kn_logic.specs.Literals.{Literal, places, IsKnown, AreKnown}
+use Rattle.kn_logic.specs.Literals.{Literal, AreKnown}
 use Rattle.kn_logic.specs.Constraints.{Bounded, clause, is_clause}
 use Rattle.kn_logic.specs.Groups.{Gathered, IsGroup}
 use Rattle.kn_logic.proofs.Public.{All-push, All-append}
@@ -23,7 +23,7 @@ use Rattle.kn_quant.specs.Quantified.{some_value}
 use Rattle.kn_quant.specs.Runs.{clause_function, order_of}
 use Rattle.kn_quant.specs.Eliminations.{Eliminated, IsElimination, IsEliminationOf, node_of, has_node, IsStage, AreStages, IsClauseAt, IsNoClause, HasClauses}
 use Rattle.kn_justify.specs.declared.name.Name.{Name}
-use Rattle.kn_justify.specs.Names.{name_of, test_at, AreRight, IsUnit}
+use Rattle.kn_justify.specs.Names.{name_of, AreRight, IsUnit}
 use Rattle.kn_justify.specs.Closings.{AreLive}
 use Rattle.kn_justify.specs.Taken.{AreTaken, IsGroupWithin, IsOrderKnown, CountsBorder, unit_of, has_unit, AreUnits, AreMade, AreMadeInTurn, IsTakenAt, IsNext}
 use Rattle.kn_justify.proofs.GridLemmas.{some_values}

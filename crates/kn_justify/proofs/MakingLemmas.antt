@@ -1,15 +1,14 @@
 -- Units that are made in turn.
-use Rattle.std.proofs.Common.{◌≡◌, ℕ, ◌+◌, ◌≤◌, ◌<◌, ◌==◌, ◌&&◌, ◌⊎◌, ◌++◌, Bool, true, false, List, [], ◌∷◌, length, take, get_or, slice_get, nat_eq, Option, Some, None, refl, sym, ap, ◌∙◌, subst, inl, inr, arith}
-use Rattle.std.specs.List.{AllByRecursion}
+use Rattle.std.proofs.Common.{◌≡◌, ℕ, ◌+◌, ◌≤◌, ◌<◌, ◌==◌, ◌&&◌, ◌⊎◌, ◌++◌, true, false, List, [], ◌∷◌, length, take, get_or, nat_eq, Option, Some, None, refl, sym, ap, ◌∙◌, subst, inl, inr}
 use Rattle.std.specs.Option.{is_some}
 use Rattle.std.proofs.lemmas.Bool.{eqb-true, eq-eqb}
 use Rattle.std.proofs.lemmas.List.{take_more}
-use Rattle.std.proofs.lemmas.Option.{slice_get_read, same_Some}
+use Rattle.std.proofs.lemmas.Option.{slice_get_read}
 use Rattle.kn_logic.specs.Constraints.{Bounded, clause}
 use Rattle.kn_logic.proofs.Public.{All-push}
 use Rattle.kn_lines.specs.declared.line.Arm.{Arm}
 use Rattle.kn_rules.specs.declared.given.Given.{Given}
-use Rattle.kn_rules.specs.States.{ProofState, live_at}
+use Rattle.kn_rules.specs.States.{ProofState}
 use Rattle.kn_diagram.specs.declared.trace.Met.{Met}
 use Rattle.kn_diagram.specs.Diagrams.{Table}
 use Rattle.kn_diagram.specs.Traces.{Explains}
@@ -20,8 +19,8 @@ use Rattle.kn_quant.specs.Eliminations.{node_of}
 use Rattle.kn_justify.specs.declared.name.Name.{Name}
 use Rattle.kn_justify.specs.Arms.{literals_of}
 use Rattle.kn_justify.specs.Growth.{Grown}
-use Rattle.kn_justify.specs.Names.{arm_at, IsNamed, AreKept, IsUnit}
-use Rattle.kn_justify.specs.Taken.{AreAllNamed, unit_of, has_unit, AreUnits, AreMade, AreMadeInTurn, IsTakenAt, IsNext, IsNoted}
+use Rattle.kn_justify.specs.Names.{IsNamed, AreKept, IsUnit}
+use Rattle.kn_justify.specs.Taken.{AreAllNamed, unit_of, has_unit, AreUnits, AreMade, AreMadeInTurn, IsNext, IsNoted}
 use Rattle.kn_justify.proofs.GrowthLemmas.{grown-live}
 use Rattle.kn_justify.proofs.KeptLemmas.{arm-stays, named-stays}
 use Rattle.kn_justify.proofs.KnownLemmas.{ThreeNamed}

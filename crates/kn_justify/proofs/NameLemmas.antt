@@ -1,20 +1,18 @@
 -- Names that are right, and stay so; and the nodes that are reached from a named one.
-use Rattle.std.proofs.Common.{◌≡◌, ℕ, zero, suc, ◌+◌, ◌≤◌, ◌<◌, ◌==◌, ◌||◌, ◌⊎◌, Bool, true, false, if◌then◌else◌, eqb, List, [], ◌∷◌, length, slice_index, Option, Some, None, refl, sym, ap, ◌∙◌, subst, inl, inr, arith}
-use Rattle.std.proofs.lemmas.Bool.{and_from, le-leb, ne_eqb, eq-eqb, eqb-true, cases_Bool, cond-true, cond-false, or_cases, or_left, or_right, cases_lt}
+use Rattle.std.proofs.Common.{◌≡◌, ℕ, zero, suc, ◌+◌, ◌≤◌, ◌<◌, ◌==◌, ◌||◌, ◌⊎◌, true, if◌then◌else◌, List, [], ◌∷◌, Some, refl, sym, ◌∙◌, subst, inl, inr, arith}
+use Rattle.std.proofs.lemmas.Bool.{and_from, le-leb, ne_eqb, cases_lt}
 use Rattle.std.proofs.lemmas.Option.{same_Some}
-use Rattle.kn_logic.specs.Literals.{Literal, negated, IsKnown}
+use Rattle.kn_logic.specs.Literals.{Literal}
 use Rattle.kn_lines.specs.declared.line.Arm.{Arm}
 use Rattle.kn_lines.specs.declared.line.Arm.TheVariants as arm
 use Rattle.kn_rules.specs.States.{ProofState}
 use Rattle.kn_rules.specs.Steps.{opposite, is_known_arm}
 use Rattle.kn_diagram.specs.declared.trace.Met.{Met}
-use Rattle.kn_diagram.specs.Diagrams.{Row, Table, IsTable, IsNode, row_in, depth_of, high_of, low_of}
-use Rattle.kn_diagram.specs.Widths.{reaches_in, reaches}
+use Rattle.kn_diagram.specs.Diagrams.{Table, IsTable, IsNode, high_of, low_of}
 use Rattle.kn_justify.specs.declared.name.Name.{Name}
 use Rattle.kn_justify.specs.Arms.{literals_of, AreKnownArms}
 use Rattle.kn_justify.specs.Growth.{Grown}
-use Rattle.kn_justify.specs.Definitions.{IsDefined}
-use Rattle.kn_justify.specs.Names.{name_of, arm_by, arm_at, IsRightName, IsNamed, HasName, HasNames, AreRight, pair_arms, IsNamedMet}
+use Rattle.kn_justify.specs.Names.{name_of, arm_at, IsRightName, IsNamed, HasName, HasNames, AreRight, pair_arms, IsNamedMet}
 use Rattle.kn_justify.proofs.DefinitionLemmas.{defined-grows}
 use Rattle.kn_justify.proofs.ReachLemmas.{reaches-own, reaches-high, reaches-low, reached-all}
 

@@ -1,6 +1,6 @@
 -- From the children of a pair to the pair.
-use Rattle.std.proofs.Common.{◌≡◌, ℕ, zero, suc, ◌+◌, ◌≤◌, ◌<◌, ◌++◌, ◌||◌, Bool, true, false, not, eqb, List, [], ◌∷◌, length, Option, None, Some, refl, sym, ap, ◌∙◌, subst, arith, append_assoc}
-use Rattle.std.proofs.lemmas.Bool.{cond-true, cond-false, eqb-true, eq-eqb, ne_eqb, or_left, or_right, and_from, le-leb}
+use Rattle.std.proofs.Common.{◌≡◌, ℕ, ◌+◌, ◌≤◌, ◌<◌, ◌++◌, ◌||◌, Bool, true, false, eqb, List, [], ◌∷◌, length, Some, refl, sym, ap, ◌∙◌, subst, arith, append_assoc}
+use Rattle.std.proofs.lemmas.Bool.{cond-true, cond-false, eqb-true, or_left, or_right, and_from, le-leb}
 use Rattle.kn_logic.specs.Literals.{Literal, negated, is_same, IsKnown}
 use Rattle.kn_logic.proofs.Public.{same-refl, negated_twice}
 use Rattle.kn_lines.specs.declared.line.Arm.{Arm}
@@ -9,8 +9,8 @@ use Rattle.kn_rules.specs.declared.given.Given.{Given}
 use Rattle.kn_rules.specs.States.{ProofState}
 use Rattle.kn_rules.specs.Steps.{opposite}
 use Rattle.kn_diagram.specs.declared.trace.Met.{Met}
-use Rattle.kn_diagram.specs.Diagrams.{Table, IsTable, HasNodes, depth_of, high_of, low_of, high_at, low_at}
-use Rattle.kn_diagram.proofs.Public.{has_nodes, is-branch}
+use Rattle.kn_diagram.specs.Diagrams.{Table, IsTable, depth_of, high_of, low_of, high_at, low_at}
+use Rattle.kn_diagram.proofs.Public.{is-branch}
 use Rattle.kn_justify.specs.declared.name.Name.{Name}
 use Rattle.kn_justify.specs.Arms.{Settled, Refuted, AreKnownArms, literals_of, is_trivial}
 use Rattle.kn_justify.specs.Names.{name_of, arm_at, test_at, test_of, IsRightName, HasName, hint_at, side_hints, pair_arms, high_met, low_met, IsNamedMet}

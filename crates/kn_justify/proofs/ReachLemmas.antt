@@ -1,7 +1,7 @@
 -- The nodes that are reached from a node: those of its high and its low node are among them.
-use Rattle.std.proofs.Common.{◌≡◌, ℕ, zero, suc, ◌+◌, ◌≤◌, ◌<◌, ◌==◌, ◌||◌, ◌⊎◌, Bool, true, false, if◌then◌else◌, List, [], ◌∷◌, length, refl, sym, ap, ◌∙◌, subst, inl, inr, arith}
-use Rattle.std.proofs.lemmas.Bool.{ne_eqb, eq-eqb, eqb-true, eqb-false, cases_Bool, cond-true, cond-false, or_cases, or_left, or_right, cases_eq}
-use Rattle.kn_diagram.specs.Diagrams.{Row, Table, IsTable, IsNode, IsReduced, AreReduced, row_in, depth_of, high_of, low_of}
+use Rattle.std.proofs.Common.{◌≡◌, ℕ, ◌+◌, ◌≤◌, ◌<◌, ◌==◌, ◌||◌, ◌⊎◌, Bool, true, false, if◌then◌else◌, List, [], ◌∷◌, length, refl, sym, ap, ◌∙◌, subst, inl, inr, arith}
+use Rattle.std.proofs.lemmas.Bool.{ne_eqb, eq-eqb, eqb-true, cond-true, cond-false, or_cases, or_left, or_right, cases_eq}
+use Rattle.kn_diagram.specs.Diagrams.{Row, Table, IsTable, IsNode, IsReduced, AreReduced, row_in, high_of, low_of}
 use Rattle.kn_diagram.specs.Widths.{reaches_in, reaches}
 
 -- a node reaches itself

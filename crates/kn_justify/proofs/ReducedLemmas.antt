@@ -1,24 +1,24 @@
 -- The entries of a quantification: above the variable the results for the two nodes are the two nodes of the result.
-use Rattle.std.proofs.Common.{◌≡◌, ℕ, zero, suc, ◌+◌, ◌≤◌, ◌<◌, ◌==◌, ◌&&◌, ◌||◌, ◌⊎◌, ◌++◌, Bool, true, false, if◌then◌else◌, List, [], ◌∷◌, length, take, get_or, nat_eq, slice_index, Option, Some, None, refl, sym, ap, ◌∙◌, subst, inl, inr, arith, append_assoc}
+use Rattle.std.proofs.Common.{◌≡◌, ℕ, zero, suc, ◌+◌, ◌≤◌, ◌<◌, ◌==◌, ◌&&◌, ◌||◌, ◌⊎◌, ◌++◌, Bool, true, false, if◌then◌else◌, List, [], ◌∷◌, length, take, get_or, nat_eq, slice_index, Option, Some, None, refl, sym, ap, ◌∙◌, subst, arith, append_assoc}
 use Rattle.std.specs.Prelude.{option_to_list}
 use Rattle.std.specs.Option.{is_some}
 use Rattle.std.proofs.lemmas.List.{append-nil}
-use Rattle.std.proofs.lemmas.Bool.{cond-true, cond-false, ne_eqb, eq-eqb, eqb-true, and_parts}
+use Rattle.std.proofs.lemmas.Bool.{cond-true, eq-eqb, eqb-true, and_parts}
 use Rattle.std.proofs.lemmas.Option.{slice_get_within, slice_get_read, get_or_from_slice_get}
 use Rattle.kn_logic.proofs.Public.{All-push}
 use Rattle.kn_rules.specs.declared.given.Given.{Given}
 use Rattle.kn_rules.specs.States.{ProofState}
 use Rattle.kn_diagram.specs.declared.trace.Met.{Met}
-use Rattle.kn_diagram.specs.Diagrams.{Table, IsTable, IsNode, HasNodes, IsBranch, with_value, function_of, depth_of, high_of, low_of, high_at, low_at, depth_in}
-use Rattle.kn_diagram.specs.Traces.{found, has_pair, IsRight, AreExplained}
-use Rattle.kn_diagram.proofs.Public.{canonical, has_nodes, depth_in-slice_index, slice_index-depth_in, split-at, high-function, low-function, function_of-constant, found-right}
-use Rattle.kn_quant.specs.Quantified.{some_value, IsQuantified, IsAccounted, AreAccounted}
+use Rattle.kn_diagram.specs.Diagrams.{Table, IsTable, IsBranch, with_value, function_of, depth_of, high_of, low_of, high_at, low_at, depth_in}
+use Rattle.kn_diagram.specs.Traces.{found, AreExplained}
+use Rattle.kn_diagram.proofs.Public.{canonical, depth_in-slice_index, slice_index-depth_in, split-at, high-function, low-function, function_of-constant, found-right}
+use Rattle.kn_quant.specs.Quantified.{IsQuantified, IsAccounted, AreAccounted}
 use Rattle.kn_justify.specs.declared.name.Name.{Name}
 use Rattle.kn_justify.specs.declared.side.Side.TheVariants.{Left, Right}
-use Rattle.kn_justify.specs.Arms.{Settled, is_trivial}
+use Rattle.kn_justify.specs.Arms.{Settled}
 use Rattle.kn_justify.specs.Growth.{Grown}
 use Rattle.kn_justify.specs.Names.{arm_at, pair_arms, high_met, low_met}
-use Rattle.kn_justify.specs.Lemmas.{lemma_of, has_lemma, alone, IsJoined, AreJoined, IsReduced, AreReduced, AreCovered, HasParts, AreParted}
+use Rattle.kn_justify.specs.Lemmas.{lemma_of, has_lemma, alone, AreJoined, IsReduced, AreReduced, AreCovered, HasParts, AreParted}
 use Rattle.kn_justify.proofs.HintLemmas.{trivial-settled, settled-grows}
 use Rattle.kn_justify.proofs.LookupLemmas.{lookup-holds}
 use Rattle.kn_justify.proofs.EntryLemmas.{first_same, found-joined, alone-high, alone-low}

@@ -1,5 +1,5 @@
 -- The traces of stages: what the last entry of each says.
-use Rattle.std.proofs.Common.{◌≡◌, ℕ, ◌≤◌, ◌==◌, ◌&&◌, ◌||◌, ◌++◌, Bool, true, false, List, [], ◌∷◌, Option, Some, None, refl, sym, ap, ◌∙◌, subst, append_assoc}
+use Rattle.std.proofs.Common.{◌≡◌, ℕ, ◌≤◌, ◌==◌, ◌&&◌, ◌||◌, ◌++◌, Bool, true, List, [], ◌∷◌, Option, Some, sym, ◌∙◌, subst, append_assoc}
 use Rattle.std.specs.Prelude.{option_to_list}
 use Rattle.std.specs.List.{AllByRecursion}
 use Rattle.std.proofs.lemmas.List.{append-nil}
@@ -11,7 +11,6 @@ use Rattle.kn_diagram.specs.Traces.{IsRight, AreExplained, Explains}
 use Rattle.kn_diagram.proofs.Public.{canonical}
 use Rattle.kn_quant.specs.Quantified.{IsQuantified, IsAccounted, AreAccounted, Quantifies, entry_of}
 use Rattle.kn_justify.specs.declared.name.Name.{Name}
-use Rattle.kn_justify.specs.declared.side.Side.{Side}
 use Rattle.kn_justify.specs.declared.side.Side.TheVariants.{Both}
 use Rattle.kn_justify.specs.Arms.{Settled}
 use Rattle.kn_justify.specs.Names.{pair_arms, IsNamedMet}

@@ -8,14 +8,14 @@ use Rattle.std.proofs.lemmas.Bool.{and_parts, eqb-true, eq-eqb, and_from}
 use Rattle.kn_logic.proofs.Public.{All-push}
 use Rattle.kn_rules.specs.States.{ProofState}
 use Rattle.kn_diagram.specs.declared.trace.Met.{Met}
-use Rattle.kn_diagram.specs.Diagrams.{Table, high_at, low_at}
+use Rattle.kn_diagram.specs.Diagrams.{Table}
 use Rattle.kn_diagram.specs.Traces.{found, has_pair, IsRight, IsExplained, AreExplained}
 use Rattle.kn_justify.specs.declared.name.Name.{Name}
 use Rattle.kn_justify.specs.declared.side.Side.{Side}
 use Rattle.kn_justify.specs.Arms.{Settled}
 use Rattle.kn_justify.specs.Growth.{Grown}
 use Rattle.kn_justify.specs.Names.{pair_arms, IsNamedMet}
-use Rattle.kn_justify.specs.Lemmas.{lemma_of, has_lemma, seen, joined, entry_with, IsJoined, AreJoined, AreCovered, AreNamed, HasChildren, IsOpen, depth_at}
+use Rattle.kn_justify.specs.Lemmas.{lemma_of, has_lemma, seen, joined, entry_with, IsJoined, AreJoined, AreCovered, AreNamed, HasChildren}
 use Rattle.kn_justify.proofs.HintLemmas.{settled-grows}
 use Rattle.kn_justify.proofs.NameLemmas.{met-grows}
 use Rattle.kn_justify.proofs.LookupLemmas.{lookup-kept, lookup-last}

@@ -1,9 +1,9 @@
 -- The entries of a file, with some of them gone: what is live there, and what a deletion makes of them.
-use Rattle.std.proofs.Common.{ℕ, zero, suc, ◌≡◌, ◌+◌, ◌-◌, ◌≤◌, ◌<◌, ◌==◌, Bool, true, false, not, cond, ◌||◌, List, [], ◌∷◌, ◌++◌, length, map, filter, set, Option, None, Some, refl, sym, ap, ap₂, subst, ◌∙◌, inl, inr, arith, true≢false}
-use Rattle.std.specs.Prelude.{◌⊎◌, Ok, Err, Result, slice_get, slice_set, option_and_then}
-use Rattle.std.specs.List.{AllByRecursion, range_with_len}
-use Rattle.std.specs.Option.{is_some, is_none}
-use Rattle.std.proofs.lemmas.Bool.{cond-true, cond-false, eq-eqb, ne_eqb, eqb-true}
+use Rattle.std.proofs.Common.{ℕ, zero, suc, ◌≡◌, ◌+◌, ◌-◌, ◌≤◌, ◌<◌, ◌==◌, Bool, true, false, not, cond, ◌||◌, List, [], ◌∷◌, ◌++◌, length, filter, set, Option, None, Some, refl, sym, ap, ap₂, subst, ◌∙◌, arith}
+use Rattle.std.specs.Prelude.{◌⊎◌, Ok, Err, Result, slice_get, option_and_then}
+use Rattle.std.specs.List.{AllByRecursion}
+use Rattle.std.specs.Option.{is_none}
+use Rattle.std.proofs.lemmas.Bool.{cond-true, cond-false, eq-eqb, ne_eqb}
 use Rattle.std.proofs.Math.Bool.{or_assoc}
 use Rattle.kn_logic.specs.Constraints.{Bounded}
 use Rattle.kn_logic.specs.Groups.{is_among}
@@ -13,7 +13,7 @@ use Rattle.kn_rules.specs.declared.given.Origin.TheVariants as origin
 use Rattle.kn_rules.specs.States.{given_at, live_at}
 use Rattle.kn_rules.specs.Steps.{without, deleted}
 use Rattle.kn_rules.specs.Searching.{is_searched, live_before, searched}
-use Rattle.kn_store.specs.Stores.{Numbered, ids_of, constraints_of}
+use Rattle.kn_store.specs.Stores.{Numbered, constraints_of}
 use Rattle.kn_extract.specs.Extractions.{numbered}
 use Rattle.kn_justify.specs.Growth.{IsHelping, AreHelp}
 use Rattle.kn_opening.specs.Openings.{numbered_before, live_behind}

@@ -1,20 +1,20 @@
 -- One group after another: what each leaves, and what all leave.
 use Rattle.std.proofs.Common.{ℕ, zero, suc, ◌≡◌, ◌+◌, ◌-◌, ◌≤◌, ◌<◌, ◌==◌, Bool, true, false, not, cond, ◌||◌, List, [], ◌∷◌, ◌++◌, length, map, filter, get_or, reverse, Option, None, Some, Result, Ok, Err, refl, sym, ap, ap₂, subst, ◌∙◌, inl, inr, arith, true≢false}
 use Rattle.std.specs.Prelude.{◌⊎◌, take, slice_get, ◌^◌}
-use Rattle.std.specs.List.{list_any, flat_map, AllByRecursion, range_with_len}
+use Rattle.std.specs.List.{AllByRecursion, range_with_len}
 use Rattle.std.specs.Option.{is_some}
 use Rattle.std.specs.Result.{IsErrAnd}
 use Rattle.std.specs.List.Sorted.{IsPermutation}
-use Rattle.std.proofs.lemmas.Bool.{ne_eqb, cond-true, cond-false, eqb-true, eq-eqb, or_parts, cases_Bool}
+use Rattle.std.proofs.lemmas.Bool.{ne_eqb, cond-true, cond-false, eq-eqb}
 use Rattle.std.proofs.lemmas.List.{append_assoc, append-nil, length-append, length-map, take_more, take_all}
 use Rattle.std.proofs.lemmas.List.Folds.{list_any-append}
 use Rattle.std.proofs.lemmas.List.Elements.{All-from_recursion}
 use Rattle.std.proofs.lemmas.List.Sorted.{IsPermutation-reverse, IsPermutation-sym}
 use Rattle.std.proofs.lemmas.Option.{slice_get_within}
 use Rattle.std.proofs.Math.Seq.{take-append_seam}
-use Rattle.kn_logic.specs.Literals.{Literal, IsKnown}
-use Rattle.kn_logic.specs.Constraints.{Bounded, klause, is_clause}
-use Rattle.kn_logic.specs.Formulas.{Problem, IsFormula}
+use Rattle.kn_logic.specs.Literals.{IsKnown}
+use Rattle.kn_logic.specs.Constraints.{Bounded, klause}
+use Rattle.kn_logic.specs.Formulas.{Problem}
 use Rattle.kn_logic.specs.Groups.{Gathered, is_among}
 use Rattle.kn_logic.proofs.Public.{All-append}
 use Rattle.kn_lines.specs.declared.line.Line.{Line}
@@ -23,11 +23,9 @@ use Rattle.kn_rules.specs.declared.given.Given.{Given}
 use Rattle.kn_rules.specs.declared.given.Origin.TheVariants as origin
 use Rattle.kn_rules.specs.States.{ProofState, start, from_file, live_at}
 use Rattle.kn_rules.specs.Steps.{deleted}
-use Rattle.kn_rules.specs.Searching.{searched}
 use Rattle.kn_log.specs.Logs.{Logged}
 use Rattle.kn_log.specs.Written.{AddsSuch, LogsSuchNot, LogsSuch}
 use Rattle.kn_log.specs.declared.error.LogError.{LogError}
-use Rattle.kn_log.specs.declared.error.LogError.TheVariants.{Fault, Memory}
 use Rattle.kn_log.proofs.Public.{Adds-join, such-not-behind}
 use Rattle.kn_store.specs.Stores.{Numbered, Stored, constraint_at, ids_of, constraints_of}
 use Rattle.kn_store.proofs.Public.{from-map, to-map, all-one, all-two}
@@ -37,7 +35,7 @@ use Rattle.kn_extract.specs.Kept.{Took, Extracted, IsTaken, IsExtracted, IsElimi
 use Rattle.kn_quant.specs.Eliminations.{Eliminated}
 use Rattle.kn_justify.specs.Growth.{IsPlain, ArePlain, IsHelping}
 use Rattle.kn_justify.specs.Closings.{AreClosing, AreJustifying, Replaces, klause_entry}
-use Rattle.kn_opening.specs.Openings.{IsOpeningLine, AreOpeningLines, IsLike, AreLike, klause_by, klause_in_proof, begun_with, live_behind, IsOpened}
+use Rattle.kn_opening.specs.Openings.{IsOpeningLine, AreOpeningLines, IsLike, AreLike, klause_by, klause_in_proof, live_behind, IsOpened}
 use Rattle.kn_opening.specs.Entries.{file_entries, is_taken, IsOpening}
 use Rattle.kn_opening.proofs.EntryLemmas.{file-length, file-same, live-files, live-append, live-help, searched-live, live-at, gone-at, deleted-files, AreOfFile}
 

@@ -22,7 +22,7 @@ use Rattle.kn_store.proofs.Public.{Rises, rises, from-map}
 use Rattle.kn_extract.specs.Extractions.{Found, klause_of, listed}
 use Rattle.kn_extract.specs.Structure.{IsClear, IsOver, StandApart, Pairwise, HoldTaken}
 use Rattle.kn_extract.specs.Kept.{Took, Extracted, IsTaken, IsExtracted, IsEliminated, found_of}
-use Rattle.kn_rebuild.specs.Rebuilding.{AreAlike, IsByBucket, AreByRule, IsDone, IsPartly, buckets_in, IsOrderWithin, IsBucketWithin}
+use Rattle.kn_rebuild.specs.Rebuilding.{AreAlike, AreByRule, IsDone, IsPartly, buckets_in, IsOrderWithin, IsBucketWithin}
 use Rattle.kn_rebuild.proofs.Ignoring.{AreApart, buckets-among}
 use Rattle.kn_rebuild.proofs.Grouping.{has-run, among-all, own-done, other-done, kept-off, all-hold}
 

@@ -3,10 +3,8 @@ use Rattle.std.proofs.Common.{ℕ, zero, suc, ◌≡◌, ◌+◌, ◌-◌, ◌<�
 use Rattle.std.specs.Prelude.{slice_get, slice_set}
 use Rattle.std.specs.List.{AllByRecursion}
 use Rattle.std.specs.Option.{is_none}
-use Rattle.kn_logic.specs.Literals.{Literal}
 use Rattle.kn_logic.specs.Constraints.{Bounded}
 use Rattle.kn_logic.specs.Formulas.{Problem}
-use Rattle.kn_lines.specs.declared.line.Arm.{Arm}
 use Rattle.kn_lines.specs.declared.line.Line.{Line}
 use Rattle.kn_lines.specs.declared.line.Line.TheVariants.{Header, Define, Lemma, Learned, Klause, Unfold, Delete}
 use Rattle.kn_rules.specs.declared.given.Given.{Given}
@@ -15,7 +13,7 @@ use Rattle.kn_rules.specs.declared.given.Origin.TheVariants as origin
 use Rattle.kn_rules.specs.States.{ProofState, from_file, start, given_at, live_at}
 use Rattle.kn_rules.specs.Steps.{by_definition, definition_clauses, next_variable, without, deleted, step}
 use Rattle.kn_rules.specs.Stepping.{StepsBy, learned_in}
-use Rattle.kn_rules.specs.Searching.{SearchesBy, is_learned, live_before, learned_live}
+use Rattle.kn_rules.specs.Searching.{is_learned, live_before, learned_live}
 use Rattle.kn_rules.proofs.Public.{follow-gives, define-gives, count-gives, with_given-ok, few-learned, few-forgetting}
 use Rattle.kn_extract.specs.Extractions.{Found}
 use Rattle.kn_opening.specs.Openings.{IsOpeningLine, AreOpeningLines}

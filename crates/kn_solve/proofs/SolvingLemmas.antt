@@ -1,34 +1,33 @@
 -- From the opening of a proof and the search behind it to what an outcome says of the formula.
-use Rattle.std.proofs.Common.{ℕ, zero, suc, ◌≡◌, ◌+◌, ◌-◌, ◌≤◌, ◌<◌, Bool, true, false, cond, List, [], ◌∷◌, ◌++◌, length, map, reverse, Option, None, Some, Result, Ok, Err, refl, sym, ap, ap₂, subst, ◌∙◌, inl, inr, arith}
-use Rattle.std.specs.Prelude.{◌⊎◌, take, sum_by, IfSome, IsErr}
+use Rattle.std.proofs.Common.{ℕ, ◌≡◌, ◌+◌, ◌-◌, ◌≤◌, ◌<◌, Bool, true, false, cond, List, [], ◌∷◌, ◌++◌, map, Option, None, Some, refl, sym, ap, subst, ◌∙◌, inl, inr, arith}
+use Rattle.std.specs.Prelude.{◌⊎◌, sum_by, IfSome}
 use Rattle.std.specs.List.{AllByRecursion}
 use Rattle.std.specs.List.Sorted.{IsPermutation}
-use Rattle.std.specs.Result.{IsErrAnd}
 use Rattle.std.proofs.lemmas.List.{append_assoc, append-nil}
 use Rattle.std.proofs.lemmas.List.Sums.{sum_by-cons}
 use Rattle.std.proofs.lemmas.List.Sorted.{sum_by-IsPermutation, All-permutation, IsPermutation-sym}
 use Rattle.std.proofs.lemmas.List.Elements.{All-from_recursion, recursion_from_All}
 use Rattle.kn_bytes.specs.Outside.{Got, GotPrefix}
 use Rattle.kn_bytes.proofs.Public.{Got-append, GotPrefix-append, GotPrefix-from_Got, Got-nil}
-use Rattle.kn_logic.specs.Literals.{Literal, places, IsKnown, AreKnown}
-use Rattle.kn_logic.specs.Assignments.{is_true, true_places}
-use Rattle.kn_logic.specs.Constraints.{Bounded, klause, is_clause, IsOff, Holds, IsWithin, Fits}
-use Rattle.kn_logic.specs.Formulas.{Problem, IsFormula, Satisfies}
+use Rattle.kn_logic.specs.Literals.{Literal, places, IsKnown}
+use Rattle.kn_logic.specs.Assignments.{is_true}
+use Rattle.kn_logic.specs.Constraints.{Bounded, IsOff, Holds, IsWithin, Fits}
+use Rattle.kn_logic.specs.Formulas.{Problem, Satisfies}
 use Rattle.kn_lines.specs.declared.line.Line.{Line}
 use Rattle.kn_lines.specs.declared.line.Line.TheVariants.{Header, Define, Lemma, Learned, Klause, Unfold, Delete}
 use Rattle.kn_rules.specs.States.{ProofState, start}
-use Rattle.kn_rules.specs.Stepping.{StepsBy, learned_in}
+use Rattle.kn_rules.specs.Stepping.{learned_in}
 use Rattle.kn_rules.specs.Searching.{SearchesBy, searched, is_searched, live_before}
-use Rattle.kn_rules.proofs.Public.{StepsBy-append, learned_in-append}
-use Rattle.kn_log.specs.Logs.{Logged, fresh, line_bytes, header_of, Opens, OpensNot}
-use Rattle.kn_log.specs.Written.{AreSpelled, lines_bytes, Adds, AddsSuch, Breaks, BreaksSuch, LogsSuchNot}
+use Rattle.kn_rules.proofs.Public.{learned_in-append}
+use Rattle.kn_log.specs.Logs.{Logged, fresh, line_bytes, header_of, OpensNot}
+use Rattle.kn_log.specs.Written.{lines_bytes, Adds, AddsSuch, Breaks, LogsSuchNot}
 use Rattle.kn_log.specs.declared.error.LogError.{LogError}
 use Rattle.kn_log.specs.declared.error.LogError.TheVariants.{Fault, Memory}
 use Rattle.kn_log.proofs.Public.{AreSpelled-append, lines_bytes-append, Adds-join, Breaks-join, Breaks-front}
 use Rattle.kn_rules.specs.declared.given.Given.{Given}
-use Rattle.kn_store.specs.Stores.{Numbered, ids_of, constraints_of}
+use Rattle.kn_store.specs.Stores.{Numbered, constraints_of}
 use Rattle.kn_store.proofs.Public.{to-map}
-use Rattle.kn_extract.specs.Kept.{Took, Extracted, IsExtracted, found_of}
+use Rattle.kn_extract.specs.Kept.{Extracted, IsExtracted, found_of}
 use Rattle.kn_rebuild.specs.Rebuilding.{AreByRule}
 use Rattle.kn_opening.specs.Openings.{AreOpeningLines, IsLike, AreLike, numbered_before, live_behind, IsOpened}
 use Rattle.kn_propagate.specs.Engines.{Engined}
@@ -39,7 +38,7 @@ use Rattle.kn_search.specs.declared.outcome.Outcome.{Outcome}
 use Rattle.kn_search.specs.declared.outcome.Outcome.TheVariants.{Model, Refuted, Spent}
 use Rattle.kn_search.specs.declared.outcome.SearchError.{SearchError}
 use Rattle.kn_search.specs.declared.outcome.SearchError.TheVariants as search
-use Rattle.kn_solve.specs.Solutions.{IsSolverProof, Says, Solves, SolvesNot, IsFinished, IsOutcomeOf}
+use Rattle.kn_solve.specs.Solutions.{Says, Solves, SolvesNot, IsFinished, IsOutcomeOf}
 use Rattle.kn_solve.proofs.LiveLemmas.{all-live}
 
 -- ---- constraints that say the same

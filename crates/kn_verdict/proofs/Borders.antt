@@ -1,23 +1,20 @@
 -- The variables of the border at the bottom of the order, and what is measured of their nodes.
-use Rattle.std.proofs.Common.{◌≡◌, ℕ, zero, suc, ◌+◌, ◌-◌, ◌≤◌, ◌<◌, ◌==◌, ◌⊎◌, inl, inr, Bool, true, false, if◌then◌else◌, List, [], ◌∷◌, ◌++◌, length, map, reverse, slice_index, slice_get, get_or, Option, Some, None, nat_eq, refl, sym, ap, ◌∙◌, subst, arith, length-append}
-use Rattle.std.specs.List.{AllByRecursion}
-use Rattle.std.specs.List.Sorted.{IsStrictlyIncreasing}
-use Rattle.std.proofs.lemmas.Bool.{cases_Bool, cond-true, cond-false, eqb-true, ne_eqb, cases_lt, true≢false}
+use Rattle.std.proofs.Common.{◌≡◌, ℕ, zero, suc, ◌+◌, ◌-◌, ◌≤◌, ◌<◌, ◌==◌, ◌⊎◌, inl, inr, Bool, true, false, if◌then◌else◌, List, [], ◌∷◌, ◌++◌, length, map, slice_index, slice_get, get_or, Some, None, nat_eq, refl, sym, ap, ◌∙◌, subst, arith, length-append}
+use Rattle.std.proofs.lemmas.Bool.{cases_Bool, cond-true, cond-false, eqb-true, ne_eqb, true≢false}
 use Rattle.std.proofs.lemmas.Option.{slice_get-get_or, slice_get_within, get_or_from_slice_get}
 use Rattle.std.proofs.lemmas.List.{length-reverse, get_or-reverse, get_or_append_left, get_or-map, length-map}
 use Rattle.std.proofs.lemmas.List.Folds.{list_any_none, list_any_at}
 use Rattle.std.proofs.lemmas.List.Kept.{AllPairs-from_increasing}
 use Rattle.std.specs.Map.{lookup}
 use Rattle.indexmap.specs.IndexMap.{insert_entry}
-use Rattle.kn_logic.specs.Literals.{Literal, negated, names, has, is_same, places, AreDifferent}
+use Rattle.kn_logic.specs.Literals.{Literal, negated, has, is_same, AreDifferent}
 use Rattle.kn_logic.specs.Groups.{Gathered, IsGroup}
 use Rattle.kn_logic.proofs.Public.{same-refl, All-push}
-use Rattle.kn_diagram.specs.Diagrams.{Table, IsTable, IsNode, IsBranch, HasNodes, with_value, function_of, depth_of, is_true_by}
+use Rattle.kn_diagram.specs.Diagrams.{Table, IsTable, IsNode, IsBranch, with_value, function_of, depth_of}
 use Rattle.kn_diagram.proofs.Public.{above-ignored, has_nodes}
-use Rattle.kn_quant.specs.Runs.{order_of}
 use Rattle.kn_verdict.specs.declared.fewest.Fewest.{Fewest}
-use Rattle.kn_verdict.specs.Numbers.{IsFewest, AreFewest, IsAtBorder, IsMeasured, AreMeasured, found, constant_of, joined_by}
-use Rattle.kn_verdict.proofs.Counts.{count, count_le, both-counts, length-negated, different-negated, has-negated}
+use Rattle.kn_verdict.specs.Numbers.{IsFewest, IsAtBorder, IsMeasured, AreMeasured, found, constant_of, joined_by}
+use Rattle.kn_verdict.proofs.Counts.{length-negated, different-negated, has-negated}
 use Rattle.kn_verdict.proofs.Values.{some-values}
 use Rattle.kn_verdict.proofs.Branches.{branch-fewest}
 

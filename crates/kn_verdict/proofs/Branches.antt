@@ -1,10 +1,10 @@
 -- The numbers of "if a variable then the one function, else the other", and values at which they are met.
-use Rattle.std.proofs.Common.{◌≡◌, ℕ, ◌+◌, ◌-◌, ◌≤◌, ◌<◌, ◌⊎◌, inl, inr, min, Bool, true, false, not, if◌then◌else◌, List, length, refl, sym, ap, ◌∙◌, subst, arith}
+use Rattle.std.proofs.Common.{◌≡◌, ℕ, ◌+◌, ◌-◌, ◌≤◌, ◌<◌, ◌⊎◌, inl, inr, min, Bool, true, false, not, if◌then◌else◌, List, length, sym, ap, ◌∙◌, arith}
 use Rattle.std.proofs.lemmas.Bool.{cases_Bool, cases_lt, cond-true, cond-false}
 use Rattle.kn_logic.specs.Literals.{Literal, has, AreDifferent}
-use Rattle.kn_diagram.specs.Diagrams.{with_value, is_true_by}
+use Rattle.kn_diagram.specs.Diagrams.{with_value}
 use Rattle.kn_verdict.specs.Numbers.{IsFewest, adds}
-use Rattle.kn_verdict.proofs.Counts.{count, count_le, others, count-split, count-set, own-value, adds-not, adds-either, adds-le}
+use Rattle.kn_verdict.proofs.Counts.{count, count_le, others, count-split, count-set, own-value, adds-not, adds-either}
 
 module _ (lits : List Literal) (l : Literal) (different : AreDifferent lits) (there : has lits l ≡ true) where
   -- one side, which ignores the variable: where the variable is this value

@@ -1,19 +1,19 @@
 -- From the numbers of an elimination's result to the verdict.
-use Rattle.std.proofs.Common.{◌≡◌, ℕ, zero, suc, ◌+◌, ◌-◌, ◌≤◌, ◌<◌, ◌==◌, ◌⊎◌, ◌↔◌, ◌++◌, inl, inr, Bool, true, false, not, if◌then◌else◌, List, [], ◌∷◌, length, map, reverse, nat_lt, slice_index, get_or, refl, sym, ap, ◌∙◌, subst, arith, length-append}
+use Rattle.std.proofs.Common.{◌≡◌, ℕ, ◌+◌, ◌-◌, ◌≤◌, ◌<◌, ◌==◌, ◌⊎◌, ◌↔◌, ◌++◌, inl, inr, Bool, true, false, if◌then◌else◌, List, [], ◌∷◌, length, map, reverse, nat_lt, slice_index, get_or, refl, sym, ap, ◌∙◌, arith, length-append}
 use Rattle.std.specs.List.{AllByRecursion}
-use Rattle.std.proofs.lemmas.Bool.{cases_Bool, cases_lt, cases_eq, ltb-true, ltb-false, lt-ltb, le-ltb, ne_eqb, eq-eqb, true≢false}
-use Rattle.std.proofs.lemmas.List.{length-reverse, get_or-reverse, get_or-append_right, length-map}
+use Rattle.std.proofs.lemmas.Bool.{cases_Bool, cases_lt, ltb-true, ltb-false, lt-ltb, le-ltb, ne_eqb, eq-eqb, true≢false}
+use Rattle.std.proofs.lemmas.List.{length-reverse, get_or-reverse, get_or-append_right}
 use Rattle.std.proofs.lemmas.List.Folds.{list_any_at}
-use Rattle.kn_logic.specs.Literals.{Literal, negated, places}
+use Rattle.kn_logic.specs.Literals.{Literal, places}
 use Rattle.kn_logic.specs.Groups.{Gathered, IsGroup, is_among}
-use Rattle.kn_diagram.specs.Diagrams.{Table, IsTable, IsNode, with_value, function_of, depth_of, is_true_by}
+use Rattle.kn_diagram.specs.Diagrams.{Table, IsTable, IsNode, with_value, depth_of, is_true_by}
 use Rattle.kn_diagram.proofs.Public.{not_above}
-use Rattle.kn_quant.specs.Runs.{CanHold, AgreeAtBorder}
+use Rattle.kn_quant.specs.Runs.{CanHold}
 use Rattle.kn_quant.specs.Eliminations.{Eliminated, IsEliminationOf}
 use Rattle.kn_verdict.specs.declared.fewest.Fewest.{Fewest}
 use Rattle.kn_verdict.specs.Cardinals.{IsCardinal, DiffersAt}
 use Rattle.kn_verdict.specs.Numbers.{AreFewest, IsWitness}
-use Rattle.kn_verdict.proofs.Counts.{count, count_le, both-counts, length-negated, other-value}
+use Rattle.kn_verdict.proofs.Counts.{count, both-counts, length-negated, other-value}
 
 -- ---- the result is a node of the border
 

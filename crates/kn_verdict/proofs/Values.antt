@@ -1,10 +1,10 @@
 -- Values of variables that make chosen literals of a list true.
-use Rattle.std.proofs.Common.{◌≡◌, ℕ, zero, suc, ◌+◌, ◌-◌, ◌≤◌, ◌<◌, ◌==◌, ◌++◌, Bool, true, false, not, if◌then◌else◌, cond, List, [], ◌∷◌, length, map, replicate, slice_get, slice_set, get_or, inl, inr, ◌⊎◌, nat_lt, Some, None, refl, sym, ap, ◌∙◌, subst, arith, length-append}
+use Rattle.std.proofs.Common.{◌≡◌, ℕ, zero, suc, ◌+◌, ◌-◌, ◌≤◌, ◌<◌, ◌==◌, ◌++◌, Bool, true, false, not, if◌then◌else◌, cond, List, [], ◌∷◌, length, map, replicate, slice_get, slice_set, get_or, inl, inr, ◌⊎◌, nat_lt, Some, refl, sym, ap, ◌∙◌, arith, length-append}
 use Rattle.std.proofs.lemmas.Bool.{cases_lt, lt-ltb, le-ltb, or_parts, or_left, or_right, eq-eqb, eqb-true, false_from_ne_true, true≢false}
 use Rattle.std.proofs.lemmas.List.{get_or-map}
 use mathlib.Core.Bool.{beq}
 use Rattle.std.proofs.lemmas.Simd.{length-replicate}
-use Rattle.kn_logic.specs.Literals.{Literal, negated, names, places, AreDifferent}
+use Rattle.kn_logic.specs.Literals.{Literal, negated, names, AreDifferent}
 use Rattle.kn_diagram.specs.Diagrams.{with_value, is_true_by}
 use Rattle.kn_verdict.specs.Numbers.{asked}
 use Rattle.kn_verdict.proofs.Counts.{count, own-value, other-value}

@@ -1,14 +1,14 @@
 -- Going down from a node to one of its two nodes: by given values, and to a side with the lower number.
-use Rattle.std.proofs.Common.{◌≡◌, ℕ, ◌+◌, ◌≤◌, ◌<◌, ◌==◌, ◌⊎◌, inl, inr, min, Bool, true, false, not, if◌then◌else◌, List, length, map, nat_lt, slice_get, slice_set, slice_index, get_or, Some, zero, suc, refl, sym, ap, ◌∙◌, subst, arith}
+use Rattle.std.proofs.Common.{◌≡◌, ℕ, ◌+◌, ◌≤◌, ◌<◌, ◌==◌, ◌⊎◌, inl, inr, Bool, true, false, not, if◌then◌else◌, List, length, map, nat_lt, slice_get, slice_set, Some, zero, suc, sym, ap, ◌∙◌, subst, arith}
 use Rattle.std.proofs.lemmas.Bool.{cases_Bool, cond-true, cond-false, ltb-true, ltb-false}
 use Rattle.std.proofs.lemmas.List.{length-map}
-use Rattle.kn_logic.specs.Literals.{Literal, negated, has, places}
+use Rattle.kn_logic.specs.Literals.{Literal, negated, has}
 use Rattle.kn_logic.specs.Groups.{Gathered, IsGroup}
-use Rattle.kn_diagram.specs.Diagrams.{Table, IsTable, IsNode, IsBranch, with_value, function_of, depth_of, is_true_by}
+use Rattle.kn_diagram.specs.Diagrams.{Table, IsTable, IsBranch, with_value, function_of}
 use Rattle.kn_diagram.proofs.Public.{has_nodes}
 use Rattle.kn_verdict.specs.declared.fewest.Fewest.{Fewest}
-use Rattle.kn_verdict.specs.Numbers.{IsFewest, IsAtBorder, IsMeasured, IsWitness, adds, asked, asked_literal, number_of}
-use Rattle.kn_verdict.proofs.Counts.{count, different-negated, has-negated}
+use Rattle.kn_verdict.specs.Numbers.{IsAtBorder, IsMeasured, IsWitness, adds, asked_literal, number_of}
+use Rattle.kn_verdict.proofs.Counts.{different-negated, has-negated}
 use Rattle.kn_verdict.proofs.Values.{values-exist, values-set, avoided}
 use Rattle.kn_verdict.proofs.Branches.{high-wanted, low-wanted, chosen-some, chosen-fewest}
 use Rattle.kn_verdict.proofs.Borders.{border-different, border-high, border-low, ignores, splits}

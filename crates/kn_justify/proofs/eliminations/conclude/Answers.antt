@@ -1,4 +1,4 @@
-use Rattle.std.proofs.Common.{◌≡◌, ◌≤◌, ◌∙◌, ℕ, List, Option, Some, sym, ap, subst, reverse}
+use Rattle.std.proofs.Common.{◌≡◌, ◌≤◌, ◌∙◌, ℕ, List, Some, sym, ap, subst, reverse}
 use Rattle.std.specs.Result.{IsOk}
 use Rattle.kn_logic.specs.Constraints.{Bounded, klause}
 use Rattle.kn_logic.specs.Literals.{Literal}

@@ -1,11 +1,10 @@
-use Rattle.std.proofs.Common.{◌≡◌, ◌≤◌, ◌∙◌, ℕ, List, Some, None, sym, subst, arith}
+use Rattle.std.proofs.Common.{◌≡◌, ◌≤◌, ◌∙◌, List, Some, None, sym, subst, arith}
 use Rattle.std.specs.List.{AllByRecursion}
 use Rattle.kn_logic.specs.Constraints.{Bounded}
 use Rattle.kn_logic.specs.Literals.{IsKnown}
 use Rattle.kn_diagram.specs.Diagrams.{Table, IsTable}
 use Rattle.kn_quant.specs.declared.stage.Stage.{Stage}
 use Rattle.kn_rules.specs.States.{live_at}
-use Rattle.kn_justify.specs.Growth.{ArePlain}
 use Rattle.kn_justify.specs.Closings.{AreJustifying, Replaces}
 use Rattle.kn_justify.specs.Taken.{AreMadeInTurn, IsOrderKnown, klause_of}
 use Rattle.kn_justify.proofs.GrowthLemmas.{adds-grow, such-grows, grown-live}

@@ -1,4 +1,4 @@
-use Rattle.std.proofs.Common.{◌∙◌, sym, subst, ap}
+use Rattle.std.proofs.Common.{◌∙◌, sym, subst}
 use Rattle.kn_diagram.specs.declared.trace.Met.{Met}
 use Rattle.kn_justify.specs.Names.{IsNamedMet, high_met, low_met, pair_arms}
 use Rattle.kn_justify.specs.Arms.{Settled}

@@ -1,5 +1,4 @@
 use Rattle.std.proofs.Common.{[], arith}
-use Rattle.std.specs.Prelude.{option_to_list}
 use Rattle.kn_log.specs.declared.error.LogError.TheVariants.{Memory}
 use Rattle.kn_justify.specs.Growth.{ArePlain, Grown}
 use Rattle.kn_justify.specs.Names.{IsNamedMet}
@@ -7,8 +6,8 @@ use Rattle.kn_justify.specs.Lemmas.{joined}
 use Rattle.kn_justify.proofs.GrowthLemmas.{such-grows, adds-grow, plain-join, plain-behind-not}
 use Rattle.kn_justify.proofs.SettleLemmas.{error-ends}
 use Rattle.kn_justify.proofs.NameLemmas.{met-grows}
-use Rattle.kn_justify.proofs.LookupLemmas.{none-found, some-found}
-use Rattle.kn_justify.proofs.TraceLemmas.{All-place, explained-at, has-children, covered-next, covered-more, joined-more}
+use Rattle.kn_justify.proofs.LookupLemmas.{none-found}
+use Rattle.kn_justify.proofs.TraceLemmas.{All-place, explained-at, has-children, covered-more, joined-more}
 use Rattle.kn_justify.proofs.joins.joins.Goals as goal
 
 pub entry-requires-clause-met : goal.entry-requires-clause-met

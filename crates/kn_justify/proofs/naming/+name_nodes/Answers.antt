@@ -1,6 +1,5 @@
-use Rattle.std.proofs.Common.{◌≡◌, ◌≤◌, ℕ, List, None, sym, ap, ◌∙◌, subst, arith, rules}
+use Rattle.std.proofs.Common.{◌≡◌, ◌≤◌, None, sym, ◌∙◌, arith, rules}
 use Rattle.std.proofs.lemmas.Bool.{ltb-false}
-use Rattle.kn_diagram.specs.Diagrams.{IsNode}
 use Rattle.kn_justify.specs.Growth.{ArePlain}
 use Rattle.kn_justify.specs.Names.{name_of, AreReachedKnown}
 use Rattle.kn_justify.proofs.GrowthLemmas.{Grown-join, such-grows, plain-behind, plain-behind-not, plain-join}

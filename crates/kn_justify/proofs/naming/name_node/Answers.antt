@@ -1,10 +1,7 @@
 use Rattle.std.proofs.Common.{◌≡◌, ◌++◌, ◌∷◌, [], ℕ, List, true, sym, ap, ◌∙◌, subst}
-use Rattle.kn_logic.specs.Literals.{Literal, IsKnown}
 use Rattle.kn_lines.specs.declared.line.Arm.{Arm}
 use Rattle.kn_rules.specs.Steps.{is_known_arm}
-use Rattle.kn_diagram.specs.Diagrams.{high_of, low_of}
 use Rattle.kn_justify.specs.declared.name.Name.{Name}
-use Rattle.kn_justify.specs.Definitions.{IsDefined}
 use Rattle.kn_justify.specs.Names.{positive_of, arm_at, test_of, IsNamed, AreRight, AreKept, AreOfReached}
 use Rattle.kn_justify.proofs.GrowthLemmas.{such-grows}
 use Rattle.kn_justify.proofs.NameLemmas.{arm_known, has-name, are-right-grow}

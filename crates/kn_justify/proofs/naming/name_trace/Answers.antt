@@ -1,7 +1,7 @@
 use Rattle.std.proofs.Common.{arith}
 use Rattle.kn_diagram.specs.Diagrams.{IsNode}
 use Rattle.kn_justify.specs.Growth.{ArePlain}
-use Rattle.kn_justify.proofs.GrowthLemmas.{such-grows, adds-grow, plain-join, plain-behind-not}
+use Rattle.kn_justify.proofs.GrowthLemmas.{adds-grow, plain-join, plain-behind-not}
 use Rattle.kn_justify.proofs.SettleLemmas.{error-ends}
 use Rattle.kn_justify.proofs.TraceLemmas.{All-place}
 use Rattle.kn_justify.proofs.KnownLemmas.{order-grows, all-more}

@@ -1,6 +1,5 @@
 use Rattle.std.proofs.Common.{◌≡◌, ℕ, ◌++◌, [], ◌∷◌, ap, ◌∙◌, List}
 use Rattle.std.specs.Prelude.{option_to_list}
-use Rattle.kn_diagram.specs.declared.trace.Met.{Met}
 use Rattle.kn_justify.specs.Names.{pair_arms, hint_at}
 use Rattle.kn_justify.proofs.PairLemmas.{at-refuted, four_pushed}
 use Rattle.kn_justify.proofs.pairs.at_variable.Goals as goal

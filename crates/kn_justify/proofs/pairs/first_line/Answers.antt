@@ -1,7 +1,6 @@
 use Rattle.std.proofs.Common.{◌≡◌, ℕ, ◌++◌, [], ◌∷◌, ap, ◌∙◌, List}
 use Rattle.std.specs.Prelude.{option_to_list}
 use Rattle.kn_logic.specs.Literals.{Literal, negated}
-use Rattle.kn_lines.specs.declared.line.Arm.{Arm}
 use Rattle.kn_lines.specs.declared.line.Arm.TheVariants as arm
 use Rattle.kn_justify.specs.Names.{pair_arms, side_hints}
 use Rattle.kn_justify.proofs.PairLemmas.{first-refuted, first-known}

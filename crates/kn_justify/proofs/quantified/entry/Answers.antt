@@ -1,5 +1,5 @@
-use Rattle.std.proofs.Common.{◌≡◌, ◌≤◌, ◌<◌, ℕ, sym, ap, ◌∙◌, subst, arith, refl}
-use Rattle.std.proofs.lemmas.Bool.{ltb-true, eqb-true, eqb-false}
+use Rattle.std.proofs.Common.{◌≡◌, ◌≤◌, ◌<◌, sym, ◌∙◌, arith}
+use Rattle.std.proofs.lemmas.Bool.{ltb-true}
 use Rattle.kn_diagram.specs.Diagrams.{depth_of, depth_in}
 use Rattle.kn_justify.proofs.ReducedLemmas.{constant-settled, below-settled, is-at, is-above, first-half, second-half, high-part, low-part, not-missing}
 use Rattle.kn_justify.proofs.quantified.entry.Goals as goal

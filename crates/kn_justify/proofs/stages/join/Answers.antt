@@ -1,9 +1,9 @@
-use Rattle.std.proofs.Common.{◌≡◌, sym, subst, ◌&&◌, List, [], ℕ}
+use Rattle.std.proofs.Common.{◌≡◌, sym, subst, ◌&&◌, List, []}
 use Rattle.kn_diagram.specs.declared.trace.Met.{Met}
 use Rattle.kn_quant.specs.declared.stage.Stage.{Stage}
 use Rattle.kn_quant.specs.declared.stage.Stage.TheVariants.{And}
 use Rattle.kn_quant.specs.Eliminations.{node_of}
-use Rattle.kn_justify.specs.Names.{IsNamed, IsUnit}
+use Rattle.kn_justify.specs.Names.{IsNamed}
 use Rattle.kn_justify.specs.Lemmas.{AreNamed}
 use Rattle.kn_justify.specs.Stages.{IsAnd, traces_of, left_of, right_of}
 use Rattle.kn_justify.specs.Taken.{AreThere, AreAllNamed}

@@ -1,18 +1,18 @@
-use Rattle.std.proofs.Common.{◌≡◌, sym, subst, ◌||◌, List, [], ℕ, ◌≤◌, arith}
+use Rattle.std.proofs.Common.{◌≡◌, sym, subst, ◌||◌, List, [], ◌≤◌}
 use Rattle.kn_logic.proofs.Public.{All-append}
 use Rattle.kn_diagram.specs.declared.trace.Met.{Met}
 use Rattle.kn_quant.specs.declared.stage.Stage.{Stage}
 use Rattle.kn_quant.specs.declared.stage.Stage.TheVariants.{Exists}
 use Rattle.kn_quant.specs.Eliminations.{node_of}
-use Rattle.kn_justify.specs.Growth.{ArePlain, Grown}
-use Rattle.kn_justify.specs.Names.{IsNamed, IsUnit, IsNamedMet}
+use Rattle.kn_justify.specs.Growth.{ArePlain}
+use Rattle.kn_justify.specs.Names.{IsNamed, IsNamedMet}
 use Rattle.kn_justify.specs.Lemmas.{AreNamed}
 use Rattle.kn_justify.specs.Stages.{IsExists, traces_of, left_of}
 use Rattle.kn_justify.specs.Taken.{AreThere, AreAllNamed}
 use Rattle.kn_justify.proofs.GrowthLemmas.{Grown-join, such-grows, plain-behind, plain-behind-not, plain-join}
 use Rattle.kn_justify.proofs.SettleLemmas.{error-ends}
 use Rattle.kn_justify.proofs.NameLemmas.{are-right-grow}
-use Rattle.kn_justify.proofs.KeptLemmas.{kept-join, named-stays}
+use Rattle.kn_justify.proofs.KeptLemmas.{kept-join}
 use Rattle.kn_justify.proofs.StageLemmas.{exists-halves, exists-accounted}
 use Rattle.kn_justify.proofs.KnownLemmas.{named-entries, explained-there, accounted-there, always-ok, order-grows, all-stay}
 use Rattle.kn_justify.proofs.MakingLemmas.{unit-moves, exists-last}

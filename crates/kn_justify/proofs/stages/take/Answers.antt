@@ -1,7 +1,7 @@
 use Rattle.std.proofs.Common.{◌≤◌, arith}
-use Rattle.kn_justify.proofs.GrowthLemmas.{grown-live, such-grows, plain-behind}
+use Rattle.kn_justify.proofs.GrowthLemmas.{grown-live, plain-behind}
 use Rattle.kn_justify.proofs.NameLemmas.{has-names, are-right-grow}
-use Rattle.kn_justify.proofs.KnownLemmas.{order-reached, on-ok}
+use Rattle.kn_justify.proofs.KnownLemmas.{order-reached}
 use Rattle.kn_justify.proofs.stages.take.Goals as goal
 
 pub name_nodes-requires-clause-known : goal.name_nodes-requires-clause-known

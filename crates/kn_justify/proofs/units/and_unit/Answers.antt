@@ -1,11 +1,10 @@
-use Rattle.std.proofs.Common.{◌≡◌, sym, subst, ap, ◌∙◌, List, [], refl, ℕ}
+use Rattle.std.proofs.Common.{◌≡◌, sym, subst, ◌∙◌, List, [], refl}
 use Rattle.kn_diagram.specs.declared.trace.Met.{Met}
 use Rattle.kn_diagram.specs.Traces.{AreExplained}
 use Rattle.kn_quant.specs.declared.stage.Stage.{Stage}
 use Rattle.kn_quant.specs.declared.stage.Stage.TheVariants.{And}
 use Rattle.kn_justify.specs.declared.side.Side.TheVariants.{Both}
-use Rattle.kn_justify.specs.Growth.{Grown}
-use Rattle.kn_justify.specs.Names.{IsUnit, IsNamedMet}
+use Rattle.kn_justify.specs.Names.{IsUnit}
 use Rattle.kn_justify.specs.Lemmas.{AreNamed, AreCovered, joined}
 use Rattle.kn_justify.specs.Stages.{IsAnd, traces_of, left_of, right_of}
 use Rattle.kn_justify.proofs.GrowthLemmas.{Grown-join, such-grows, plain-behind}

@@ -1,4 +1,4 @@
-use Rattle.std.proofs.Common.{◌≡◌, sym, subst, ap, ◌∙◌, ◌||◌, List, [], refl, ℕ}
+use Rattle.std.proofs.Common.{◌≡◌, sym, subst, ap, ◌∙◌, ◌||◌, List, [], refl}
 use Rattle.std.specs.Prelude.{option_to_list}
 use Rattle.kn_diagram.specs.declared.trace.Met.{Met}
 use Rattle.kn_diagram.specs.Traces.{AreExplained}
@@ -6,7 +6,6 @@ use Rattle.kn_quant.specs.Quantified.{AreAccounted}
 use Rattle.kn_quant.specs.declared.stage.Stage.{Stage}
 use Rattle.kn_quant.specs.declared.stage.Stage.TheVariants.{Exists}
 use Rattle.kn_justify.specs.Arms.{Settled}
-use Rattle.kn_justify.specs.Growth.{Grown}
 use Rattle.kn_justify.specs.Names.{IsUnit, HasName, IsNamedMet, pair_arms}
 use Rattle.kn_justify.specs.Lemmas.{AreNamed, AreCovered}
 use Rattle.kn_justify.specs.Stages.{IsExists, traces_of, left_of}

@@ -1,5 +1,5 @@
-use Rattle.std.proofs.Common.{List, sym, ap, subst, ◌∙◌}
-use Rattle.kn_logic.specs.Literals.{Literal, IsKnown, AreKnown}
+use Rattle.std.proofs.Common.{sym, ap, subst, ◌∙◌}
+use Rattle.kn_logic.specs.Literals.{IsKnown, AreKnown}
 use Rattle.kn_logic.proofs.Public.{All-push}
 use Rattle.kn_learn.proofs.tests.lits_of.Goals.{then-number-ne0+in_ok-push, else-number-ne0}
 use Rattle.kn_learn.proofs.tests.lits_of.Goals as goal

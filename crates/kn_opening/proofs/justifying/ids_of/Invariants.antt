@@ -1,4 +1,4 @@
-use Rattle.std.proofs.Common.{ℕ, ◌≡◌, ◌+◌, map, take}
+use Rattle.std.proofs.Common.{◌≡◌, ◌+◌, map, take}
 use Rattle.kn_opening.proofs.justifying.ids_of.Given as goal
 
 abbrev pub invariant-loop-place : goal.invariant-loop-place

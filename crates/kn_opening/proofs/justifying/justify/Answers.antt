@@ -1,8 +1,7 @@
-use Rattle.std.proofs.Common.{◌≡◌, ◌∙◌, sym, ap, subst, ℕ, ◌+◌, ◌-◌, map, length}
+use Rattle.std.proofs.Common.{◌≡◌, ◌∙◌, sym, ap, subst, ◌+◌, ◌-◌, map}
 use Rattle.std.specs.Prelude.{nat_eq, IfOk}
 use Rattle.std.specs.List.{IsDistinct}
 use Rattle.std.specs.Option.{option_copied}
-use Rattle.kn_logic.specs.Constraints.{klause}
 use Rattle.kn_logic.specs.Groups.{Gathered}
 use Rattle.kn_log.specs.Written.{LogsSuch}
 use Rattle.kn_justify.specs.Closings.{AreJustifying, Replaces}

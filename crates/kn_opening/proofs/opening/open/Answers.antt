@@ -1,15 +1,14 @@
-use Rattle.std.proofs.Common.{ℕ, ◌≡◌, ◌<◌, ◌≤◌, ◌+◌, ◌^◌, ◌++◌, ◌∷◌, [], List, length, map, get_or, sym, ap, ap₂, subst, refl, ◌∙◌, arith, None, Some}
+use Rattle.std.proofs.Common.{◌≡◌, ◌<◌, ◌≤◌, ◌+◌, ◌^◌, ◌++◌, ◌∷◌, [], length, map, get_or, sym, ap, subst, ◌∙◌, arith, None, Some}
 use Rattle.std.specs.Prelude.{filter}
 use Rattle.std.specs.List.{AllByRecursion, range_with_len}
 use Rattle.std.specs.Option.{is_some}
-use Rattle.kn_rules.specs.States.{live_at, start}
-use Rattle.kn_log.specs.Written.{LogsSuchNot}
+use Rattle.kn_rules.specs.States.{live_at}
 use Rattle.kn_log.specs.declared.error.LogError.TheVariants.{Memory}
 use Rattle.kn_log.proofs.Public.{Adds-none}
 use Rattle.kn_extract.specs.Structure.{IsOver}
 use Rattle.kn_extract.specs.Kept.{Took, found_of}
 use Rattle.kn_justify.specs.Closings.{Replaces}
-use Rattle.kn_opening.specs.Openings.{AreOpeningLines, klause_in_proof, IsOpened}
+use Rattle.kn_opening.specs.Openings.{AreOpeningLines, klause_in_proof}
 use Rattle.kn_opening.specs.Entries.{IsOpening}
 use Rattle.kn_opening.proofs.OpeningLemmas.{opening-start, opening-next, opening-more, opening-not, error-ends, next-live, next-file, next-below, next-over, next-pair, opening-end}
 use Rattle.kn_opening.proofs.opening.open.Goals as goal

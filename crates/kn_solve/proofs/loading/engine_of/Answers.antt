@@ -1,8 +1,7 @@
-use Rattle.std.proofs.Common.{ℕ, ◌≡◌, ◌≤◌, ◌<◌, ◌+◌, List, length, map, get_or, None, Some, refl, sym, ap, subst, ◌∙◌, arith}
+use Rattle.std.proofs.Common.{ℕ, ◌≡◌, ◌≤◌, ◌<◌, ◌+◌, List, length, get_or, refl, sym, ap, subst, ◌∙◌, arith}
 use Rattle.std.specs.Option.{option_copied}
 use Rattle.std.proofs.lemmas.List.{length-map}
-use Rattle.std.proofs.lemmas.List.Elements.{All-from_recursion}
-use Rattle.kn_logic.specs.Constraints.{Bounded, IsWithin}
+use Rattle.kn_logic.specs.Constraints.{IsWithin}
 use Rattle.kn_opening.specs.Openings.{live_behind}
 use Rattle.kn_solve.proofs.LiveLemmas.{next-of, next-fresh, next-loaded, next-within, all-loaded, none-some}
 use Rattle.kn_solve.proofs.loading.engine_of.Goals as goal

@@ -1,6 +1,5 @@
-use Rattle.std.proofs.Common.{◌≤◌, length, ap, sym, subst, ◌∙◌, arith}
+use Rattle.std.proofs.Common.{◌≤◌, length, ap, subst, ◌∙◌, arith}
 use Rattle.kn_diagram.specs.Diagrams.{IsTable, IsNode, depth_of}
-use Rattle.kn_verdict.specs.Numbers.{IsAtBorder}
 use Rattle.kn_verdict.proofs.Deciding.{root-below}
 use Rattle.kn_verdict.proofs.decide.root_of.Goals as goal
 

@@ -1,6 +1,6 @@
-use Rattle.std.proofs.Common.{◌≡◌, ◌<◌, length, Some, sym, subst, ap, ◌∙◌, arith}
+use Rattle.std.proofs.Common.{◌≡◌, ◌<◌, length, sym, subst, ap, ◌∙◌, arith}
 use Rattle.std.proofs.lemmas.Bool.{ltb-true}
-use Rattle.kn_diagram.specs.Diagrams.{function_of, depth_of}
+use Rattle.kn_diagram.specs.Diagrams.{function_of}
 use Rattle.kn_verdict.specs.Numbers.{AreFewest, constant_of}
 use Rattle.kn_verdict.proofs.Borders.{measured-constant, measured-branch, found-measured, noted-measured, place-within, node-literal}
 use Rattle.kn_verdict.proofs.measure.+measure.Goals as goal

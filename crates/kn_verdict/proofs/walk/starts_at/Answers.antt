@@ -1,11 +1,9 @@
-use Rattle.std.proofs.Common.{◌≡◌, ◌<◌, ℕ, Bool, if◌then◌else◌, length, map, nat_lt, slice_index, get_or, sym, subst, ap, ◌∙◌, arith}
+use Rattle.std.proofs.Common.{◌≡◌, ◌<◌, if◌then◌else◌, nat_lt, get_or, sym, subst, ap, ◌∙◌}
 use mathlib.Core.Bool.{beq}
 use Rattle.std.proofs.lemmas.Bool.{ltb-true}
-use Rattle.kn_logic.specs.Literals.{Literal}
-use Rattle.kn_diagram.specs.Diagrams.{function_of, depth_of, is_true_by}
 use Rattle.kn_verdict.proofs.Borders.{place-within, node-literal}
-use Rattle.kn_verdict.proofs.Values.{first_truths, value-first}
-use Rattle.kn_verdict.proofs.Walks.{border-half, half-smaller, half-function, constant-value}
+use Rattle.kn_verdict.proofs.Values.{value-first}
+use Rattle.kn_verdict.proofs.Walks.{border-half, half-function, constant-value}
 use Rattle.kn_verdict.proofs.walk.starts_at.Goals as goal
 
 pub loop-parts-preserved : goal.loop-parts-preserved

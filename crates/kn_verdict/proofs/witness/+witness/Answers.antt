@@ -1,10 +1,8 @@
-use Rattle.std.proofs.Common.{◌≡◌, ◌<◌, ◌≤◌, ◌*◌, ◌^◌, ℕ, Bool, length, map, Some, if◌then◌else◌, sym, subst, ap, ◌∙◌, arith, Fits, w64}
+use Rattle.std.proofs.Common.{◌≡◌, ◌<◌, ◌≤◌, ◌*◌, ◌^◌, length, Some, if◌then◌else◌, sym, ap, ◌∙◌, arith}
 use Rattle.std.proofs.lemmas.List.{length-map}
 use Rattle.std.proofs.lemmas.Bool.{ltb-true}
 use Rattle.std.proofs.lemmas.Result.{IfOk-weaker}
 use Rattle.kn_logic.specs.Literals.{Literal}
-use Rattle.kn_diagram.specs.Diagrams.{function_of, depth_of}
-use Rattle.kn_verdict.specs.Numbers.{IsWitness}
 use Rattle.kn_verdict.proofs.Borders.{place-within, node-literal}
 use Rattle.kn_verdict.proofs.Walks.{border-half, half-smaller, half-some, witness-constant, witness-half}
 use Rattle.kn_verdict.proofs.witness.+witness.Goals as goal

@@ -1,4 +1,4 @@
-use Rattle.std.proofs.Common.{ap, sym, ◌∙◌, [], ◌∷◌, ◌++◌}
+use Rattle.std.proofs.Common.{ap, ◌∙◌, [], ◌∷◌, ◌++◌}
 use Rattle.kn_verdict.specs.Numbers.{found}
 use Rattle.kn_verdict.proofs.Borders.{insert-found}
 use Rattle.kn_verdict.proofs.measures.Measures.insert.Goals as goal
