@@ -3,3 +3,4 @@ pub mod Places
 pub mod Tabled
 pub mod FourWords
 pub mod Public
+pub mod Counting

@@ -183,7 +183,7 @@ fn are_below(n: u8, lits: &[TableLit]) -> bool
 
 #[test]
 fn tables_are_lists(rt: HostRuntime) -> Result<(), Fail> {
-    let cases: [(u8, &[TableLit], u64); 10] = [
+    let cases: [(u8, &[TableLit], u64); 11] = [
         (0, &[], 0),
         (0, &[], 1),
         (5, &[is(4), not(2), is(0)], 2),
@@ -198,6 +198,7 @@ fn tables_are_lists(rt: HostRuntime) -> Result<(), Fail> {
             5,
         ),
         (12, &[not(11), not(10)], 1),
+        (2, &[is(0), is(1), not(1)], 13),
     ];
     for (n, lits, bound) in cases {
         let agree = n <= 12 && are_below(n, lits) && agrees(rt.alloc(), n, lits, bound)?;

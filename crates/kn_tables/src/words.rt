@@ -1,5 +1,5 @@
 //! The words of tables, 64 indices each: that of a clause or a count, and the first one in which two tables differ.
-ghost use Rattle.std.specs.Prelude.{◌≡◌, ◌≢◌, ◌≤◌, ◌<◌, ◌+◌, ◌*◌, ◌^◌, ℕ, length, slice_index, count_by, nat_le};
+ghost use Rattle.std.specs.Prelude.{◌≡◌, ◌≢◌, ◌≤◌, ◌<◌, ◌+◌, ◌*◌, ◌^◌, ℕ, length, slice_index, count_by, nat_le, bit_and, bit_or};
 ghost use Rattle.std.specs.List.{list_any};
 ghost use Rattle.kn_tables.specs.Indices.{has_bit};
 ghost use Rattle.kn_tables.specs.Tables.{AreBelow, is_true_at};
@@ -74,6 +74,48 @@ fn variable_word(var: u8, place: usize) -> u64
 
 /// The word at this place of the table of "at least `bound` of these".
 pub fn count_word(lits: &[TableLit], bound: u64, place: usize) -> u64
+    requires place { place < 64 }
+    requires below { AreBelow 12 lits.now }
+    ensures { HasValues (λ i. nat_le bound (count_by (is_true_at i) lits.now)) place result }
+{
+    if bound <= 12 {
+        low_word(lits, bound as usize, place)
+    } else {
+        high_word(lits, bound, place)
+    }
+}
+
+/// The same for a low bound: all values of the word at once, for each number up to the bound.
+fn low_word(lits: &[TableLit], bound: usize, place: usize) -> u64
+    requires place { place < 64 }
+    requires below { AreBelow 12 lits.now }
+    requires low { bound ≤ 12 }
+    ensures { HasValues (λ i. nat_le bound (count_by (is_true_at i) lits.now)) place result }
+{
+    let mut words = [0; 13];
+    words[0] = u64::MAX;
+    for lit in lits {
+        let word = literal_word(*lit, place);
+        count_in(&mut words, word, bound);
+    }
+    words[bound]
+}
+
+/// One literal more comes to the words of "at least" each number up to the bound.
+fn count_in(words: &mut [u64], word: u64, bound: usize)
+    requires { bound < length words.old }
+    ensures long { length words.new ≡ length words.old }
+    ensures first { slice_index words.new 0 ≡ slice_index words.old 0 }
+    ensures more { (k : ℕ) → k < bound → slice_index words.new (k + 1) ≡ bit_or (slice_index words.old (k + 1)) (bit_and (slice_index words.old k) word) }
+{
+    for above in 0..bound {
+        let number = bound - above;
+        words[number] = words[number] | (words[number - 1] & word);
+    }
+}
+
+/// The same for any bound, one value after another.
+fn high_word(lits: &[TableLit], bound: u64, place: usize) -> u64
     requires place { place < 64 }
     requires below { AreBelow 12 lits.now }
     ensures { HasValues (λ i. nat_le bound (count_by (is_true_at i) lits.now)) place result }

@@ -5,8 +5,8 @@ use Rattle.std.proofs.lemmas.Bool.{cases_eq, cases_lt, lt-ltb, le-ltb, le-leb, l
 use Rattle.std.proofs.lemmas.Nat.Bits.{bit_at_set_same, bit_at_set_other}
 use Rattle.kn_tables.specs.Indices.{has_bit}
 use Rattle.kn_tables.specs.Tables.{is_true_at}
-use Rattle.kn_tables.proofs.words.count_word.Goals as goal
-use Rattle.kn_tables.proofs.words.count_word.Goals.{then-bound-true_count, else-bound-true_count}
+use Rattle.kn_tables.proofs.words.high_word.Goals as goal
+use Rattle.kn_tables.proofs.words.high_word.Goals.{then-bound-true_count, else-bound-true_count}
 
 same_below : (p bit : ℕ) → p ≢ bit → nat_lt p bit ≡ nat_lt p (bit + 1)
 same_below p bit ne =
