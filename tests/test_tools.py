@@ -48,6 +48,8 @@ def readers(tally, name, cases):
             with Folder() as folder:
                 folder.write("f", got[1])
                 tally.test(f"{name} on {given!r} is read", run(["convert", "f"], folder.path)[0] == 0)
+    status, _, said = tool(name, os.path.join(TOP, "no such file"))
+    tally.test(f"{name} on no file", status == 1 and said.startswith(name) and "Traceback" not in said, said)
 
 
 def explanations(tally):

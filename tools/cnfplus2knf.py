@@ -9,16 +9,9 @@ status 1; so is a literal above the number of variables of the problem line."""
 import re
 import sys
 
-from knftext import at_least, at_most, clause, text
+from knftext import Refused, at_least, at_most, clause, convert
 
 CARDINALITY = re.compile(r"\s*((?:-?\d+\s+)*)(<=|>=)\s*(\d+)\s*$")
-
-
-class Refused(Exception):
-    """What is not of the format, with its line, counted from 1."""
-
-    def __init__(self, line, why):
-        super().__init__(f"line {line}: {why}")
 
 
 def literals(words, variables, number):
@@ -69,23 +62,5 @@ def read(source):
     return variables, found
 
 
-def main(arguments):
-    if arguments in (["-h"], ["--help"]):
-        print(__doc__)
-        return 0
-    if len(arguments) > 1:
-        print("usage: cnfplus2knf.py [FILE]", file=sys.stderr)
-        return 2
-    source = open(arguments[0], encoding="utf-8") if arguments else sys.stdin
-    try:
-        with source:
-            variables, found = read(source)
-    except Refused as refused:
-        print(f"cnfplus2knf: {refused}", file=sys.stderr)
-        return 1
-    sys.stdout.write(text(variables, found))
-    return 0
-
-
 if __name__ == "__main__":
-    sys.exit(main(sys.argv[1:]))
+    sys.exit(convert(read, __doc__, sys.argv[1:]))

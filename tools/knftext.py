@@ -1,5 +1,9 @@
 """The KNF text of a formula, as the tools write it. A constraint is a guard (a literal, or None), a bound and a
-list of literals; literals are whole numbers other than 0, variables count from 1."""
+list of literals; literals are whole numbers other than 0, variables count from 1. A tool that turns another format into
+KNF is `convert` over the function that reads it."""
+
+import os
+import sys
 
 
 def clause(lits):
@@ -40,3 +44,34 @@ def text(variables, constraints, comments=()):
     head = [f"c {comment}" for comment in comments]
     head.append(f"p knf {variables} {len(constraints)}")
     return "\n".join(head + [line(c) for c in constraints]) + "\n"
+
+
+class Refused(Exception):
+    """What cannot be turned into KNF, with the line where it stands, counted from 1."""
+
+    def __init__(self, line, why):
+        super().__init__(f"line {line}: {why}")
+
+
+def convert(read, usage, arguments):
+    """The program of a converter: its status. `read` takes a file to its number of variables and its constraints; `usage` is the
+    text of `--help`."""
+    name = os.path.basename(sys.argv[0])
+    if arguments in (["-h"], ["--help"]):
+        print(usage)
+        return 0
+    if len(arguments) > 1:
+        print(f"usage: {name} [FILE]", file=sys.stderr)
+        return 2
+    try:
+        with open(arguments[0], encoding="utf-8") if arguments else sys.stdin as source:
+            variables, found = read(source)
+    except Refused as refused:
+        print(f"{name}: {refused}", file=sys.stderr)
+        return 1
+    except (OSError, UnicodeDecodeError) as error:
+        why = getattr(error, "strerror", None) or "its bytes are not UTF-8"
+        print(f"{name}: {arguments[0] if arguments else 'standard input'}: {why}", file=sys.stderr)
+        return 1
+    sys.stdout.write(text(variables, found))
+    return 0

@@ -10,16 +10,9 @@ products of variables. A variable `x17` is the KNF variable 17."""
 import re
 import sys
 
-from knftext import text
+from knftext import Refused, convert
 
 WORD = re.compile(r"[+-]?\d+|~?x\d+|>=|<=|=|;|\S+")
-
-
-class Refused(Exception):
-    """What cannot be turned into KNF, with the line where it stands, counted from 1."""
-
-    def __init__(self, line, why):
-        super().__init__(f"line {line}: {why}")
 
 
 def words(source):
@@ -104,7 +97,7 @@ def negative(weights):
 
 
 def constraints(source):
-    """All constraints of a file, and the greatest variable."""
+    """The greatest variable of a file, and all its constraints."""
     found = []
     greatest = 0
     for held, number in statements(source):
@@ -117,26 +110,8 @@ def constraints(source):
             found.append(at_least(weights, degree - constant))
         if relation in ("<=", "="):
             found.append(at_least(negative(weights), constant - degree))
-    return found, greatest
-
-
-def main(arguments):
-    if arguments in (["-h"], ["--help"]):
-        print(__doc__)
-        return 0
-    if len(arguments) > 1:
-        print("usage: opb2knf.py [FILE]", file=sys.stderr)
-        return 2
-    source = open(arguments[0], encoding="utf-8") if arguments else sys.stdin
-    try:
-        with source:
-            found, greatest = constraints(source)
-    except Refused as refused:
-        print(f"opb2knf: {refused}", file=sys.stderr)
-        return 1
-    sys.stdout.write(text(greatest, found))
-    return 0
+    return greatest, found
 
 
 if __name__ == "__main__":
-    sys.exit(main(sys.argv[1:]))
+    sys.exit(convert(constraints, __doc__, sys.argv[1:]))

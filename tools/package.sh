@@ -22,10 +22,11 @@ trap 'rm -r "$work"' EXIT
 
 root=$work/knf-$version
 install -D -m 755 "$program" "$root/usr/bin/knf"
-mkdir -p "$root/usr/share/man/man1" "$root/usr/share/doc/knf/docs" "$root/usr/share/knf"
+mkdir -p "$root/usr/share/man/man1" "$root/usr/share/doc/knf/docs" "$root/usr/share/doc/knf/bench" "$root/usr/share/knf"
 gzip -9nc "$top/docs/knf.1" > "$root/usr/share/man/man1/knf.1.gz"
 cp "$top/README.md" "$root/usr/share/doc/knf/"
 cp "$top"/docs/*.md "$top"/docs/*.svg "$root/usr/share/doc/knf/docs/"
+cp "$top/bench/README.md" "$root/usr/share/doc/knf/bench/"
 cp -R "$top/examples" "$top/tools" "$root/usr/share/knf/"
 find "$root" -name __pycache__ -prune -exec rm -r {} +
 
