@@ -1,5 +1,5 @@
-//! Groups with each answer but a wide stage, and drawn ones against all values of their six variables.
-ghost use Rattle.std.specs.Prelude.{◌≡◌, ◌≤◌, [], ◌∷◌, true, false, length, IfOk};
+//! Groups with each answer but a wide stage, and drawn ones of 6 and of 13 variables against all values.
+ghost use Rattle.std.specs.Prelude.{◌≡◌, ◌≤◌, [], ◌∷◌, true, false, length, IfOk, if◌then◌else◌};
 ghost use Rattle.std.specs.List.{AllByRecursion};
 ghost use Rattle.kn_logic.specs.Constraints.{clause, is_clause};
 ghost use Rattle.kn_logic.specs.Groups.{IsCovered};
@@ -122,7 +122,7 @@ fn drawn_clause(alloc: Global, place: u64, a: Lit, b: Lit) -> Result<Constraint,
 // variables, or `many`.
 fn drawn_group(alloc: Global, number: u64, many: bool) -> Result<Group, NoMemory>
     ensures border { IfOk result (λ g. length g.border ≡ 3) }
-    ensures aux { IfOk result (λ g. length g.aux ≤ 10) }
+    ensures aux { IfOk result (λ g. length g.aux ≡ (if many then 10 else 3)) }
 {
     let (x, y, z) = (Lit::new(1, false), Lit::new(2, true), Lit::new(3, false));
     let (four, five) = (Lit::new(4, true), Lit::new(5, true));
