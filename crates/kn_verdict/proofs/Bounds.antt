@@ -1,5 +1,5 @@
 -- The bound of a count, and the verdicts that exclude one another.
-use Rattle.std.proofs.Common.{◌≡◌, ℕ, ◌+◌, ◌-◌, ◌≤◌, ◌<◌, ◌⊎◌, inl, inr, Bool, List, length, ◌∙◌, arith}
+use Rattle.std.proofs.Common.{◌≡◌, ℕ, ◌≤◌, ◌<◌, ◌⊎◌, inl, inr, Bool, List, length, arith}
 use Rattle.std.proofs.lemmas.Bool.{cases_order}
 use Rattle.kn_logic.specs.Groups.{Gathered, IsGroup}
 use Rattle.kn_logic.specs.Literals.{places}

@@ -1,5 +1,5 @@
 -- The numbers of "if a variable then the one function, else the other", and values at which they are met.
-use Rattle.std.proofs.Common.{◌≡◌, ℕ, ◌+◌, ◌-◌, ◌≤◌, ◌<◌, ◌⊎◌, inl, inr, min, Bool, true, false, not, if◌then◌else◌, List, length, sym, ap, ◌∙◌, arith}
+use Rattle.std.proofs.Common.{◌≡◌, ℕ, ◌+◌, ◌≤◌, ◌<◌, ◌⊎◌, inl, inr, min, Bool, true, false, not, if◌then◌else◌, List, length, sym, ap, ◌∙◌, arith}
 use Rattle.std.proofs.lemmas.Bool.{cases_Bool, cases_lt, cond-true, cond-false}
 use Rattle.kn_logic.specs.Literals.{Literal, has, AreDifferent}
 use Rattle.kn_diagram.specs.Diagrams.{with_value}

@@ -1,5 +1,5 @@
 -- How many literals of a list are true, and how one variable changes it.
-use Rattle.std.proofs.Common.{◌≡◌, ℕ, suc, ◌+◌, ◌-◌, ◌≤◌, ◌<◌, ◌==◌, ◌⊎◌, ◌||◌, inl, inr, Bool, true, false, not, if◌then◌else◌, cond, List, [], ◌∷◌, length, map, filter, refl, sym, ap, ◌∙◌, subst, arith}
+use Rattle.std.proofs.Common.{◌≡◌, ℕ, suc, ◌+◌, ◌≤◌, ◌==◌, ◌⊎◌, ◌||◌, inl, inr, Bool, true, false, not, if◌then◌else◌, cond, List, [], ◌∷◌, length, map, filter, refl, sym, ap, ◌∙◌, subst, arith}
 use Rattle.std.proofs.lemmas.Bool.{cases_Bool, cond-true, cond-false, eqb-true, eq-eqb, or_cases, false_from_ne_true, or_parts, or_left, or_right, true≢false}
 use Rattle.kn_logic.specs.Literals.{Literal, negated, is_same, has, names, places, AreDifferent}
 use Rattle.kn_logic.proofs.Public.{same_literal, same-refl, has-names}

@@ -1,5 +1,5 @@
 -- From the numbers of an elimination's result to the verdict.
-use Rattle.std.proofs.Common.{◌≡◌, ℕ, ◌+◌, ◌-◌, ◌≤◌, ◌<◌, ◌==◌, ◌⊎◌, ◌↔◌, ◌++◌, inl, inr, Bool, true, false, if◌then◌else◌, List, [], ◌∷◌, length, map, reverse, nat_lt, slice_index, get_or, refl, sym, ap, ◌∙◌, arith, length-append}
+use Rattle.std.proofs.Common.{◌≡◌, ℕ, ◌+◌, ◌-◌, ◌≤◌, ◌<◌, ◌==◌, ◌⊎◌, ◌↔◌, ◌++◌, inl, inr, Bool, true, false, List, [], ◌∷◌, length, map, reverse, nat_lt, slice_index, get_or, refl, sym, ap, ◌∙◌, arith, length-append}
 use Rattle.std.specs.List.{AllByRecursion}
 use Rattle.std.proofs.lemmas.Bool.{cases_Bool, cases_lt, ltb-true, ltb-false, lt-ltb, le-ltb, ne_eqb, eq-eqb, true≢false}
 use Rattle.std.proofs.lemmas.List.{length-reverse, get_or-reverse, get_or-append_right}

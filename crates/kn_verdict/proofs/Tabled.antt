@@ -2,7 +2,7 @@
 use Rattle.std.proofs.Common.{◌≡◌, ℕ, zero, suc, ◌+◌, ◌-◌, ◌^◌, ◌≤◌, ◌<◌, ◌==◌, ◌⊎◌, ◌||◌, ◌↔◌, inl, inr, Bool, true, false, not, if◌then◌else◌, List, [], ◌∷◌, ◌++◌, length, map, reverse, replicate, drop, nat_eq, nat_lt, slice_index, get_or, refl, sym, ap, ◌∙◌, subst, arith, length-append}
 use Rattle.std.specs.Prelude.{count_by, nat_le}
 use Rattle.std.specs.List.{AllByRecursion, IsDistinct, range_with_len}
-use Rattle.std.proofs.lemmas.Bool.{cases_Bool, cases_lt, cases_eq, cond-true, cond-false, eqb-true, eq-eqb, ne_eqb, leb-true, le-leb, lt-leb, lt-ltb, le-ltb, or_cases, or_parts, or_left, or_right, and_parts, false_from_ne_true, true≢false}
+use Rattle.std.proofs.lemmas.Bool.{cases_Bool, cases_lt, cases_eq, cond-true, cond-false, eqb-true, eq-eqb, ne_eqb, leb-true, le-leb, lt-leb, lt-ltb, le-ltb, or_cases, or_parts, or_left, or_right, false_from_ne_true, true≢false}
 use Rattle.std.proofs.lemmas.List.{length-map, same_lists, get_or-append_right, get_or_append_left, reverse-reverse, drop_all}
 use Rattle.std.proofs.Math.Nat.{pow-le-pow_right}
 use Rattle.std.proofs.Math.Seq.{drop-cons}
@@ -10,9 +10,9 @@ use Rattle.std.proofs.lemmas.List.FromFn.{length-map-range_with_len, get_or-map-
 use Rattle.std.proofs.lemmas.List.Folds.{list_any-append, list_any_at}
 use Rattle.std.proofs.lemmas.List.Sorted.{IsPermutation-reverse}
 use Rattle.std.proofs.lemmas.Map.Keys.{IsDistinct-IsPermutation}
-use Rattle.kn_logic.specs.Literals.{Literal, places, has, is_same}
+use Rattle.kn_logic.specs.Literals.{Literal, places, has, names, is_same}
 use Rattle.kn_logic.specs.Constraints.{Bounded}
-use Rattle.kn_logic.proofs.Public.{same-refl}
+use Rattle.kn_logic.proofs.Public.{same-refl, has-names}
 use Rattle.kn_logic.specs.Groups.{Gathered, IsGroup, IsCovered, is_among}
 use Rattle.kn_tables.specs.Indices.{has_bit, index_with}
 use Rattle.kn_tables.specs.Tables.{Truth, IsTable, value_at, some_value_at, is_true_at, IsFirstDifference}
@@ -58,14 +58,12 @@ among-within (y ∷ ys) x e = by (cases_eq x y) (among-within ys x)
         later (inl s) = absurd (ne (sym (eqb-true y x s)))
         later (inr s) = s
 
+named-among : (ls : List Literal) (v : ℕ) → is_among (map (λ k. k.variable) ls) v ≡ names ls v
+named-among [] v = refl
+named-among (k ∷ ls) v = ap (λ b. (k.variable == v) || b) (named-among ls v)
+
 has-variable : (ls : List Literal) (l : Literal) → has ls l ≡ true → is_among (map (λ k. k.variable) ls) l.variable ≡ true
-has-variable [] l e = absurd (true≢false (sym e))
-has-variable (k ∷ ls) l e = by (or_cases (is_same l k) (has ls l) e) (has-variable ls l)
-  where
-    by : (is_same l k ≡ true) ⊎ (has ls l ≡ true) → (has ls l ≡ true → is_among (map (λ x. x.variable) ls) l.variable ≡ true) → is_among (map (λ x. x.variable) (k ∷ ls)) l.variable ≡ true
-    by (inl s) rest = or_left (k.variable == l.variable) (is_among (map (λ x. x.variable) ls) l.variable)
-        (eq-eqb k.variable l.variable (sym (eqb-true l.variable k.variable (and_parts (l.variable == k.variable) (if l.positive then k.positive else not k.positive) s).0)))
-    by (inr s) rest = or_right (k.variable == l.variable) (is_among (map (λ x. x.variable) ls) l.variable) (rest s)
+has-variable ls l e = named-among ls l.variable ∙ has-names ls l e
 
 covered-among : (g : Gathered) (ls : List Literal) → AllByRecursion (IsCovered g) ls → AreAmong (variables_of g) ls
 covered-among g [] h = tt

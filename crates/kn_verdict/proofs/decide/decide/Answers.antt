@@ -1,4 +1,4 @@
-use Rattle.std.proofs.Common.{◌≡◌, ◌≤◌, ◌<◌, ◌+◌, ◌⊎◌, inl, inr, ◌∙◌, length, ap, subst, arith}
+use Rattle.std.proofs.Common.{inl, inr, length, ap, subst, arith}
 use Rattle.kn_diagram.specs.Diagrams.{function_of}
 use Rattle.kn_verdict.specs.Numbers.{AreFewest}
 use Rattle.kn_verdict.proofs.Deciding.{cardinal-by}

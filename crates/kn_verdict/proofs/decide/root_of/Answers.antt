@@ -1,4 +1,4 @@
-use Rattle.std.proofs.Common.{◌≤◌, length, ap, subst, ◌∙◌, arith}
+use Rattle.std.proofs.Common.{length, ap, subst, ◌∙◌, arith}
 use Rattle.kn_diagram.specs.Diagrams.{IsTable, IsNode, depth_of}
 use Rattle.kn_verdict.proofs.Deciding.{root-below}
 use Rattle.kn_verdict.proofs.decide.root_of.Goals as goal

@@ -1,4 +1,4 @@
-use Rattle.std.proofs.Common.{◌≡◌, ◌≤◌, ◌∙◌, ℕ, Bool, nat_lt, sym, subst}
+use Rattle.std.proofs.Common.{◌≡◌, ◌∙◌, ℕ, Bool, nat_lt, sym, subst}
 use Rattle.kn_diagram.specs.Diagrams.{function_of}
 use Rattle.kn_verdict.specs.Cardinals.{DiffersAt}
 use Rattle.kn_verdict.specs.Numbers.{IsWitness}

@@ -1,4 +1,4 @@
-use Rattle.std.proofs.Common.{◌≡◌, ◌≤◌, ◌<◌, ◌-◌, length, map, slice_get, arith, ap, ◌∙◌}
+use Rattle.std.proofs.Common.{◌<◌, ◌-◌, length, map, slice_get, arith, ap, ◌∙◌}
 use Rattle.kn_logic.specs.Literals.{Literal}
 use Rattle.kn_diagram.specs.Diagrams.{depth_of}
 use Rattle.kn_verdict.proofs.Borders.{border-place, border-some}

@@ -1,4 +1,4 @@
-use Rattle.std.proofs.Common.{◌≡◌, ◌<◌, if◌then◌else◌, nat_lt, get_or, sym, subst, ap, ◌∙◌}
+use Rattle.std.proofs.Common.{◌≡◌, if◌then◌else◌, nat_lt, get_or, sym, subst, ap, ◌∙◌}
 use mathlib.Core.Bool.{beq}
 use Rattle.std.proofs.lemmas.Bool.{ltb-true}
 use Rattle.kn_verdict.proofs.Borders.{place-within, node-literal}
